@@ -1,0 +1,4 @@
+pub mod Meaning
+pub mod Checksums
+pub mod Kinds
+pub mod Refusals

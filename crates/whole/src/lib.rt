@@ -1,0 +1,65 @@
+// What people ask of a value: to be written whole or not at all, its length, its checksum, its bytes in a slice.
+ghost use mathlib.Core.Path.{_≡_};
+ghost use Prim.Native.Nat.{_<_, _≤_};
+ghost use lib.ListN.{length};
+ghost use Rattle.std.specs.Results.{Cases};
+ghost use Rattle.sink.specs.Checksums.{checksum};
+ghost use Rattle.sink.specs.Meaning.{Whole};
+ghost use Rattle.whole.specs.Asked.{longest, countable, Encodes};
+use sink::Buffer;
+use sink::BufferSink;
+use sink::Checksum;
+use sink::ChecksumSink;
+use sink::Counter;
+use sink::CounterSink;
+use sink::Full;
+use sink::Sink;
+use write::FontWrite;
+
+// Counts as many bytes as a number of the machine can say.
+type Measure = Counter<18446744073709551615>;
+
+// Writes the value whole, or not at all: it measures first, compares with the room, and only then feeds.
+pub fn write_into<T: FontWrite, S: Sink>(value: &T, sink: &mut S) -> Result<(), Full>
+    ensures { λ r. ⌜ Whole meaning (now (sink .entry)) (bytes (now (value .entry))) r (now (sink .exit)) ⌝ }
+{
+    let room = sink.limit() - sink.count();
+    let mut measure = Measure::new();
+    value.write_while_room(&mut measure)?;
+    if measure.count() > room {
+        return Err(Full);
+    }
+    match value.write_while_room(sink) {
+        Ok(()) => Ok(()),
+        Err(_) => unreachable(),
+    }
+}
+
+// How many bytes a value takes; refused where no number of the machine can say.
+pub fn length_of<T: FontWrite>(value: &T) -> Result<usize, Full>
+    ensures { λ r. ⌜ Cases r (λ n. n ≡ length (bytes (now (value .entry)))) (λ _. countable < length (bytes (now (value .entry)))) ⌝ }
+{
+    let mut measure = Measure::new();
+    value.write_while_room(&mut measure)?;
+    Ok(measure.count())
+}
+
+// The OpenType checksum of a value's bytes; refused where they are more than a table may have.
+pub fn checksum_of<T: FontWrite>(value: &T) -> Result<u32, Full>
+    ensures { λ r. ⌜ Cases r (λ n. (n ≡ checksum (bytes (now (value .entry)))) × (length (bytes (now (value .entry))) ≤ longest)) (λ _. longest < length (bytes (now (value .entry)))) ⌝ }
+{
+    let mut sum = Checksum::new();
+    write_into(value, &mut sum)?;
+    Ok(sum.value())
+}
+
+// Writes a value to the start of a slice, and says how many bytes that took.
+pub fn encode<T: FontWrite>(value: &T, out: &mut [u8]) -> Result<usize, Full>
+    ensures { λ r. ⌜ Encodes (now (out .entry)) (bytes (now (value .entry))) r (now (out .exit)) ⌝ }
+{
+    let mut buffer = Buffer::new(out);
+    match write_into(value, &mut buffer) {
+        Ok(()) => Ok(buffer.count()),
+        Err(full) => Err(full),
+    }
+}

@@ -1,0 +1,21 @@
+-- Numbers as bytes, the most significant first.
+use mathlib.Core.List.{List, [], _∷_}
+use Prim.Native.Nat.{ℕ, zero, suc, _/_, _%_, _^_}
+use lib.IntN.{ℤ}
+use mir.Syntax.{w8, w16, w32}
+use mir.Val.{ofZ}
+
+-- n in k bytes
+unfoldable pub be : ℕ → ℕ → List ℕ
+be zero n = []
+be (suc k) n = n / 256 ^ k % 256 ∷ be k n
+
+-- signed numbers of 8, 16 and 32 bits, in two's complement: a negative z stands as 2 ^ bits + z
+abbrev pub be8s : ℤ → List ℕ
+be8s z = be 1 (ofZ w8 z)
+
+abbrev pub be16s : ℤ → List ℕ
+be16s z = be 2 (ofZ w16 z)
+
+abbrev pub be32s : ℤ → List ℕ
+be32s z = be 4 (ofZ w32 z)
