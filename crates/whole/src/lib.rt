@@ -1,11 +1,10 @@
 // What people ask of a value: to be written whole or not at all, its length, its checksum, its bytes in a slice.
 ghost use mathlib.Core.Path.{_≡_};
-ghost use Prim.Native.Nat.{_<_, _≤_};
+ghost use Prim.Native.Nat.{_<_};
 ghost use lib.ListN.{length};
 ghost use Rattle.std.specs.Results.{Cases};
-ghost use Rattle.sink.specs.Checksums.{checksum};
 ghost use Rattle.sink.specs.Meaning.{Whole};
-ghost use Rattle.whole.specs.Asked.{longest, countable, Encodes};
+ghost use Rattle.whole.specs.Asked.{countable, Enters, Encodes};
 use sink::Buffer;
 use sink::BufferSink;
 use sink::Checksum;
@@ -44,13 +43,23 @@ pub fn length_of<T: FontWrite>(value: &T) -> Result<usize, Full>
     Ok(measure.count())
 }
 
-// The OpenType checksum of a value's bytes; refused where they are more than a table may have.
-pub fn checksum_of<T: FontWrite>(value: &T) -> Result<u32, Full>
-    ensures { λ r. ⌜ Cases r (λ n. (n ≡ checksum (bytes (now (value .entry)))) × (length (bytes (now (value .entry))) ≤ longest)) (λ _. longest < length (bytes (now (value .entry)))) ⌝ }
+// What the table directory of a font says of a table's bytes.
+#[derive(Clone, Copy, PartialEq, Eq, Debug)]
+pub struct DirectoryEntry {
+    pub checksum: u32,
+    pub length: u32,
+}
+
+// The checksum and the length of a value's bytes; refused where they are more than a table may have.
+pub fn directory_entry<T: FontWrite>(value: &T) -> Result<DirectoryEntry, Full>
+    ensures { λ r. ⌜ Enters (bytes (now (value .entry))) r ⌝ }
 {
     let mut sum = Checksum::new();
     write_into(value, &mut sum)?;
-    Ok(sum.value())
+    Ok(DirectoryEntry {
+        checksum: sum.value(),
+        length: sum.count() as u32,
+    })
 }
 
 // Writes a value to the start of a slice, and says how many bytes that took.

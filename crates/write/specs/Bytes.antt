@@ -11,11 +11,11 @@ be zero n = []
 be (suc k) n = n / 256 ^ k % 256 ∷ be k n
 
 -- signed numbers of 8, 16 and 32 bits, in two's complement: a negative z stands as 2 ^ bits + z
-abbrev pub be8s : ℤ → List ℕ
-be8s z = be 1 (ofZ w8 z)
+abbrev pub signed8 : ℤ → List ℕ
+signed8 z = be 1 (ofZ w8 z)
 
-abbrev pub be16s : ℤ → List ℕ
-be16s z = be 2 (ofZ w16 z)
+abbrev pub signed16 : ℤ → List ℕ
+signed16 z = be 2 (ofZ w16 z)
 
-abbrev pub be32s : ℤ → List ℕ
-be32s z = be 4 (ofZ w32 z)
+abbrev pub signed32 : ℤ → List ℕ
+signed32 z = be 4 (ofZ w32 z)

@@ -1,6 +1,6 @@
 // Whole numbers, the most significant byte first.
 ghost use mathlib.Core.List.{_∷_, []};
-ghost use Rattle.write.specs.Bytes.{be, be8s, be16s, be32s};
+ghost use Rattle.write.specs.Bytes.{be, signed8, signed16, signed32};
 use crate::write::FontWrite;
 use crate::write::put_all;
 use sink::Full;
@@ -31,7 +31,7 @@ pub impl FontWrite for u32 as U32Write {
 }
 
 pub impl FontWrite for i8 as I8Write {
-    ghost bytes = { be8s };
+    ghost bytes = { signed8 };
 
     fn write_while_room<S: Sink>(&self, sink: &mut S) -> Result<(), Full> {
         put_all(&self.to_be_bytes(), sink)
@@ -39,7 +39,7 @@ pub impl FontWrite for i8 as I8Write {
 }
 
 pub impl FontWrite for i16 as I16Write {
-    ghost bytes = { be16s };
+    ghost bytes = { signed16 };
 
     fn write_while_room<S: Sink>(&self, sink: &mut S) -> Result<(), Full> {
         put_all(&self.to_be_bytes(), sink)
@@ -47,7 +47,7 @@ pub impl FontWrite for i16 as I16Write {
 }
 
 pub impl FontWrite for i32 as I32Write {
-    ghost bytes = { be32s };
+    ghost bytes = { signed32 };
 
     fn write_while_room<S: Sink>(&self, sink: &mut S) -> Result<(), Full> {
         put_all(&self.to_be_bytes(), sink)

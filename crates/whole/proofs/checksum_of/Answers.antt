@@ -1,9 +1,0 @@
-use native.Mathlib.Omega.{arith}
-use mathlib.Core.List.{[]}
-use Rattle.whole.proofs.checksum_of.Needs as need
-
-pub returns : need.returns
-returns g c =
-    let t = c .in-Continue-write-into .ensures tt in
-    let fresh = c .new-sum .ensures .0 in
-    (c .value .ensures .of-fed (g .T·FontWrite .bytes (c .args .value .now)) (t .feeds [] fresh), omega (arith, t .room, fresh .0))
