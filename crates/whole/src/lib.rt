@@ -23,9 +23,7 @@ pub fn write_into<T: FontWrite, S: Sink>(value: &T, sink: &mut S) -> Result<(), 
     ensures { λ r. ⌜ Whole meaning (now (sink .entry)) (bytes (now (value .entry))) r (now (sink .exit)) ⌝ }
 {
     let room = sink.limit() - sink.count();
-    let mut measure = Measure::new();
-    value.write_while_room(&mut measure)?;
-    if measure.count() > room {
+    if length_of(value)? > room {
         return Err(Full);
     }
     match value.write_while_room(sink) {

@@ -6,6 +6,12 @@ use crate::write::put_all;
 use sink::Full;
 use sink::Sink;
 
+macro_rules! put_be_bytes {
+    ($number:expr, $sink:expr) => {
+        put_all(&$number.to_be_bytes(), $sink)
+    };
+}
+
 pub impl FontWrite for u8 as U8Write {
     ghost bytes = { λ n. n ∷ [] };
 
@@ -18,7 +24,7 @@ pub impl FontWrite for u16 as U16Write {
     ghost bytes = { be 2 };
 
     fn write_while_room<S: Sink>(&self, sink: &mut S) -> Result<(), Full> {
-        put_all(&self.to_be_bytes(), sink)
+        put_be_bytes!(self, sink)
     }
 }
 
@@ -26,7 +32,7 @@ pub impl FontWrite for u32 as U32Write {
     ghost bytes = { be 4 };
 
     fn write_while_room<S: Sink>(&self, sink: &mut S) -> Result<(), Full> {
-        put_all(&self.to_be_bytes(), sink)
+        put_be_bytes!(self, sink)
     }
 }
 
@@ -34,7 +40,7 @@ pub impl FontWrite for i8 as I8Write {
     ghost bytes = { signed8 };
 
     fn write_while_room<S: Sink>(&self, sink: &mut S) -> Result<(), Full> {
-        put_all(&self.to_be_bytes(), sink)
+        put_be_bytes!(self, sink)
     }
 }
 
@@ -42,7 +48,7 @@ pub impl FontWrite for i16 as I16Write {
     ghost bytes = { signed16 };
 
     fn write_while_room<S: Sink>(&self, sink: &mut S) -> Result<(), Full> {
-        put_all(&self.to_be_bytes(), sink)
+        put_be_bytes!(self, sink)
     }
 }
 
@@ -50,6 +56,6 @@ pub impl FontWrite for i32 as I32Write {
     ghost bytes = { signed32 };
 
     fn write_while_room<S: Sink>(&self, sink: &mut S) -> Result<(), Full> {
-        put_all(&self.to_be_bytes(), sink)
+        put_be_bytes!(self, sink)
     }
 }
