@@ -1,0 +1,10 @@
+pub mod Fixed
+pub mod Numbers
+pub mod Packs
+pub mod Indexes
+pub mod Components
+pub mod Roots
+pub mod Composites
+pub mod Stores
+pub mod Tables
+pub mod Apart

@@ -1,0 +1,11 @@
+pub mod Reads
+pub mod Number
+pub mod Packed
+pub mod Index
+pub mod Component
+pub mod Store
+pub mod Table
+pub mod Questions
+pub mod Examples
+pub mod Fits
+pub mod Laws
