@@ -19,10 +19,10 @@ use Rattle.format.specs.Laws.{Index-reads-back}
 use Rattle.format.proofs.Fixed.{fixed-reads, length-be}
 
 -- the last offset fits its size
-fits-size : (last : ℕ) → last < 2 ^ 32 → last < 256 ^ offset-size last
+pub fits-size : (last : ℕ) → last < 2 ^ 32 → last < 256 ^ offset-size last
 fits-size last h = grind (arith, tells)
 
-at-least : (last : ℕ) → 1 ≤ offset-size last
+pub at-least : (last : ℕ) → 1 ≤ offset-size last
 at-least last = grind (arith, tells)
 
 sound-size : (last : ℕ) → wrong-size (offset-size last) ≡ false
@@ -78,7 +78,7 @@ module _ (items : List (List ℕ)) (i : ℕ) (after : List ℕ) (h : i < length 
       let e : length (concat (take i items) ++ getD items i []) ≡ getD (offsets 1 items) (suc i) 0 - 1 = simp length-append (omega (arith, next-offset 1 items i h, offset-is 1 items i (omega arith))) in
       rw (concat-split items i after h, ← (append-assoc (concat (take i items)) (getD items i []) (concat (drop (suc i) items) ++ after)), drop-at (concat (take i items) ++ getD items i []) _ _ e)
 
-length-offsets : (size at : ℕ) (items : List (List ℕ)) → length (joined (be size) (offsets at items)) ≡ (length items + 1) * size
+pub length-offsets : (size at : ℕ) (items : List (List ℕ)) → length (joined (be size) (offsets at items)) ≡ (length items + 1) * size
 length-offsets size at [] = simp (length-append, length-be) (omega arith)
 length-offsets size at (x ∷ xs) = simp (length-append, length-be, length-offsets size (at + length x) xs) (omega arith)
 
@@ -118,7 +118,7 @@ empty-item : (end : ℕ) (after : List ℕ) (i : ℕ) → item end i (index [] +
 unfolding index item
 empty-item end after i = rw (fixed-reads Index end 4 0 (omega arith) after, le-leb 0 i (omega arith))
 
-length-index : (x : List ℕ) (xs : List (List ℕ)) → length (index (x ∷ xs)) ≡ 5 + (length (x ∷ xs) + 1) * size-of (x ∷ xs) + length (concat (x ∷ xs))
+pub length-index : (x : List ℕ) (xs : List (List ℕ)) → length (index (x ∷ xs)) ≡ 5 + (length (x ∷ xs) + 1) * size-of (x ∷ xs) + length (concat (x ∷ xs))
 length-index x xs = simp append-nil at (ap length (index-is x xs []) ∙ length-laid (x ∷ xs) (size-of (x ∷ xs)) [])
 
 concat-cut : (items : List (List ℕ)) (n : ℕ) → length (concat items) ≡ length (concat (take n items)) + length (concat (drop n items))

@@ -17,17 +17,10 @@ use Rattle.format.specs.declared.Layer.the-variants.{Values}
 use Rattle.format.specs.Reads.{got}
 use Rattle.format.specs.declared.Width.{Width}
 use Rattle.format.specs.declared.Width.the-variants.{Zero, One, Two, Four}
-use Rattle.format.specs.Packed.{by-size, wide, stops, goes-on, control, bytes, kind, pack, packed, read-value, read-run, unpack-all, unpack-due}
+use Rattle.format.specs.Packed.{Holds, by-size, wide, stops, goes-on, control, bytes, kind, pack, packed, read-value, read-run, unpack-all, unpack-due}
 use Rattle.format.specs.Fits.{Fits32}
 use Rattle.format.specs.Laws.{Packed-reads-back}
 use Rattle.format.proofs.Fixed.{signed-reads, many-read}
-
--- a width holds a value
-abbrev Holds : Width → ℤ → Type 0
-Holds Zero v = v ≡ pos 0
-Holds One v = mag v < 2 ^ 7
-Holds Two v = mag v < 2 ^ 15
-Holds Four v = mag v < 2 ^ 31
 
 sized : (v : ℤ) (m : ℕ) → mag v ≡ m → m < 2 ^ 31 → Holds (by-size m) v
 sized v m e h = at (ltb m 0x80) refl (ltb m 0x8000) refl
@@ -37,12 +30,12 @@ sized v m e h = at (ltb m 0x80) refl (ltb m 0x8000) refl
     at false p true q = omega (arith, ltb-true m 0x8000 q)
     at false p false q = omega arith
 
-own-holds : (v : ℤ) → Fits32 v → Holds (wide v) v
+pub own-holds : (v : ℤ) → Fits32 v → Holds (wide v) v
 own-holds (pos zero) h = refl
 own-holds (pos (suc n)) h = sized (pos (suc n)) (suc n) refl h
 own-holds (negsuc n) h = sized (negsuc n) n refl h
 
-widens : (w u : Width) (v : ℤ) (vs : List ℤ) → Holds u v → stops w u vs ≡ false → Holds w v
+pub widens : (w u : Width) (v : ℤ) (vs : List ℤ) → Holds u v → stops w u vs ≡ false → Holds w v
 widens Zero Zero v vs h e = h
 widens Zero One v vs h e = absurd (true≢false e)
 widens Zero Two v vs h e = absurd (true≢false e)
@@ -60,7 +53,7 @@ widens Four One v vs h e = absurd (true≢false e)
 widens Four Two v vs h e = absurd (true≢false e)
 widens Four Four v vs h e = h
 
-goes-le : (w : Width) (m : ℕ) (vs : List ℤ) → (goes-on w m vs ≤ m) × (goes-on w m vs ≤ length vs)
+pub goes-le : (w : Width) (m : ℕ) (vs : List ℤ) → (goes-on w m vs ≤ m) × (goes-on w m vs ≤ length vs)
 goes-le w zero vs = omega arith
 goes-le w (suc m) [] = omega arith
 goes-le w (suc m) (v ∷ vs) =
@@ -109,13 +102,13 @@ pack-run (suc k) w [] h = refl
 pack-run (suc k) w (v ∷ vs) h = rw (pack-run k w vs (omega arith)) (sym (append-assoc (bytes w v) (joined (bytes w) (take k vs)) (packed (drop k vs))))
 
 -- the first run of a packing
-packed-first : (v : ℤ) (vs : List ℤ) → packed (v ∷ vs) ≡ control (wide v) (goes-on (wide v) 63 vs) ∷ (joined (bytes (wide v)) (v ∷ take (goes-on (wide v) 63 vs) vs) ++ packed (drop (goes-on (wide v) 63 vs) vs))
+pub packed-first : (v : ℤ) (vs : List ℤ) → packed (v ∷ vs) ≡ control (wide v) (goes-on (wide v) 63 vs) ∷ (joined (bytes (wide v)) (v ∷ take (goes-on (wide v) 63 vs) vs) ++ packed (drop (goes-on (wide v) 63 vs) vs))
 unfolding pack
 packed-first v vs =
     let le = goes-le (wide v) 63 vs in
     ap (λ r. control (wide v) (goes-on (wide v) 63 vs) ∷ r) (pack-run (suc (goes-on (wide v) 63 vs)) (wide v) (v ∷ vs) (omega arith))
 
-length-run : (w : Width) (vs : List ℤ) → length (take (goes-on w 63 vs) vs) ≡ goes-on w 63 vs
+pub length-run : (w : Width) (vs : List ℤ) → length (take (goes-on w 63 vs) vs) ≡ goes-on w 63 vs
 length-run w vs = let le = goes-le w 63 vs in simp length-take (omega arith)
 
 first-run : (end : ℕ) (v : ℤ) (vs : List ℤ) → All Fits32 (v ∷ vs) → (after : List ℕ) → read-run end (packed (v ∷ vs) ++ after) ≡ got (v ∷ take (goes-on (wide v) 63 vs) vs) (packed (drop (goes-on (wide v) 63 vs) vs) ++ after)

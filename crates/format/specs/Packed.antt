@@ -1,10 +1,12 @@
 -- Packed values (packed deltas): runs of at most 64 values of one width, each after a control byte.
 use mathlib.Core.Bool.{Bool, true, false, cond}
 use mathlib.Core.List.{List, [], _∷_, _++_}
-use Prim.Native.Nat.{ℕ, zero, suc, _+_, _-_, _/_, _%_}
+use mathlib.Core.Path.{_≡_}
+use Prim.Native.Nat.{ℕ, zero, suc, _+_, _-_, _/_, _%_, _^_, _<_}
 use lib.Dec.{ltb}
 use lib.IntN.{ℤ, pos, negsuc}
 use lib.ListN.{length}
+use lib.Signed.{mag}
 use mir.Syntax.{w8, w16, w32}
 use mir.Val.{toZ}
 use Rattle.write.specs.Bytes.{signed8, signed16, signed32}
@@ -82,6 +84,13 @@ control Zero n = 0x80 + n
 control One n = n
 control Two n = 0x40 + n
 control Four n = 0xC0 + n
+
+-- a width holds a value: 0, or one in the range of that many bytes (the magnitude of z is z, or -1 - z where z is negative)
+abbrev pub Holds : Width → ℤ → Type 0
+Holds Zero v = v ≡ pos 0
+Holds One v = mag v < 2 ^ 7
+Holds Two v = mag v < 2 ^ 15
+Holds Four v = mag v < 2 ^ 31
 
 -- a value of a run, in two's complement
 abbrev pub bytes : Width → ℤ → List ℕ

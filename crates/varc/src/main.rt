@@ -1,4 +1,5 @@
 // varc: the command line. What matters is in the libraries; here are arguments, files and messages.
+mod encode_lines;
 mod sum;
 
 use std::env;
@@ -7,6 +8,8 @@ use std::io;
 const USAGE: &str = "varc: variable composites of OpenType fonts (the VARC table)
 
 usage: varc sum FILE...    the checksum and the length of each file, as a font's table directory has them
+       varc encode         the bytes of each line of standard input, in hex: 'number N', 'packed V V ...', or
+                           'index HEX HEX ...' where '-' is an empty item
        varc --help         this text
 
 varc ends with status 0 where everything was done, and with 1 where anything was refused.";
@@ -40,6 +43,16 @@ fn run(rt: &LibcRuntime) -> Result<(), Failure> {
     };
     match command.as_str() {
         "sum" => sum::sum(rt, args),
+        "encode" => {
+            if let Some(word) = args.next() {
+                eprintln!(
+                    rt,
+                    "varc: encode reads standard input and takes no '{word}'"
+                )?;
+                return Err(Failure::Refused);
+            }
+            encode_lines::encode(rt)
+        }
         "--help" | "-h" | "help" => Ok(println!(rt, "{USAGE}")?),
         other => {
             eprintln!(rt, "varc: no command '{other}'; 'varc --help' lists them")?;

@@ -11,9 +11,9 @@ mod tests {
     use sink::Sink;
     use std::test::*;
     use whole::directory_entry;
-    use whole::encode;
     use whole::length_of;
     use whole::write_into;
+    use whole::write_to_slice;
     use write::ArrayWrite;
     use write::Bytes;
     use write::BytesWrite;
@@ -66,7 +66,7 @@ mod tests {
     // The bytes of a value, in the first of eight; the others stay 0xEE.
     fn shown<T: FontWrite>(value: &T) -> Result<[u8; 8], Fail> {
         let mut out = [0xEEu8; 8];
-        match encode(value, &mut out) {
+        match write_to_slice(value, &mut out) {
             Ok(_) => Ok(out),
             Err(_) => Err(Fail::new("refused")),
         }
@@ -128,7 +128,7 @@ mod tests {
     #[test]
     fn a_slice_too_short_stays() -> Result<(), Fail> {
         let mut out = [7u8; 3];
-        check(encode(&1u32, &mut out).is_err())?;
+        check(write_to_slice(&1u32, &mut out).is_err())?;
         check_eq(out, [7, 7, 7])?;
         check_eq(length_of(&(1u32, 2u8)).ok(), Some(5))
     }

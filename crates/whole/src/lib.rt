@@ -2,7 +2,9 @@
 ghost use mathlib.Core.Path.{_≡_};
 ghost use Prim.Native.Nat.{_<_};
 ghost use lib.ListN.{length};
+ghost use Rattle.std.specs.Of.Vec.{vec-items};
 ghost use Rattle.std.specs.Results.{Cases};
+ghost use Rattle.std.specs.Vec.{made};
 ghost use Rattle.sink.specs.Meaning.{Whole};
 ghost use Rattle.whole.specs.Asked.{countable, Enters, Encodes};
 use sink::Buffer;
@@ -13,6 +15,8 @@ use sink::Counter;
 use sink::CounterSink;
 use sink::Full;
 use sink::Sink;
+use std::alloc::AllocError;
+use std::alloc::Global;
 use write::FontWrite;
 
 // Counts as many bytes as a number of the machine can say.
@@ -61,12 +65,26 @@ pub fn directory_entry<T: FontWrite>(value: &T) -> Result<DirectoryEntry, Full>
 }
 
 // Writes a value to the start of a slice, and says how many bytes that took.
-pub fn encode<T: FontWrite>(value: &T, out: &mut [u8]) -> Result<usize, Full>
+pub fn write_to_slice<T: FontWrite>(value: &T, out: &mut [u8]) -> Result<usize, Full>
     ensures { λ r. ⌜ Encodes (now (out .entry)) (bytes (now (value .entry))) r (now (out .exit)) ⌝ }
 {
     let mut buffer = Buffer::new(out);
     match write_into(value, &mut buffer) {
         Ok(()) => Ok(buffer.count()),
         Err(full) => Err(full),
+    }
+}
+
+// The bytes of a value; fails only for want of memory.
+pub fn to_vec<T: FontWrite>(heap: Global, value: &T) -> Result<Vec<u8>, AllocError>
+    ensures { λ r. ⌜ made r (λ v. vec-items v ≡ bytes (now (value .entry))) ⌝ }
+{
+    let Ok(length) = length_of(value) else {
+        return Err(AllocError);
+    };
+    let mut out = vec![in heap; 0u8; length]?;
+    match write_to_slice(value, &mut out) {
+        Ok(_) => Ok(out),
+        Err(_) => Err(AllocError),
     }
 }

@@ -7,7 +7,7 @@ use denote.Ref.{now}
 use lib.ListN.{length, take}
 use Rattle.sink.specs.Kinds.{held}
 use Rattle.sink.proofs.Feeding.{held-front}
-use Rattle.whole.proofs.encode.Needs as need
+use Rattle.whole.proofs.write_to_slice.Needs as need
 
 pub returns-in-Ok : need.returns-in-Ok
 returns-in-Ok g c =
