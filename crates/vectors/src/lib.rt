@@ -1,6 +1,19 @@
 // Examples that are run: worked by hand, or answered by other software.
 #[cfg(test)]
 mod tests {
+    use format::Coordinate;
+    use keys::AscendingRun;
+    use keys::CoordinateNumbered;
+    use keys::KeySought;
+    use keys::NumberKey;
+    use keys::NumberOrderedKey;
+    use keys::Numbers;
+    use keys::NumbersBank;
+    use keys::Placed;
+    use keys::PlainNumbered;
+    use keys::find;
+    use keys::numbers_ascend;
+    use keys::place_of;
     use sink::Buffer;
     use sink::BufferSink;
     use sink::ByteCounter;
@@ -153,5 +166,44 @@ mod tests {
         takes_a_table(&mut sum)?;
         // 67,108,863 words of ones, and three bytes: -67,108,863 + 0xFFFFFF00 modulo 2^32
         check_eq(sum.value(), 0xFBFFFF01)
+    }
+
+    #[test]
+    fn keys_stay_where_they_first_came() -> Result<(), Fail> {
+        let numbers: [u16; 4] = [5, 3, 5, 7];
+        let bank = Numbers { records: &numbers };
+        check_eq(find(&bank, &5u16), Some(0))?;
+        check_eq(find(&bank, &7u16), Some(3))?;
+        check_eq(find(&bank, &4u16), None)?;
+        check(matches!(place_of(&bank, &3u16), Placed::Known(1)))?;
+        check(matches!(place_of(&bank, &4u16), Placed::New(4)))
+    }
+
+    #[test]
+    fn axes_ascend() -> Result<(), Fail> {
+        let low = Coordinate {
+            axis: 2,
+            start: 0,
+            peak: 16384,
+            end: 16384,
+        };
+        let high = Coordinate {
+            axis: 3,
+            start: 0,
+            peak: 8192,
+            end: 16384,
+        };
+        check(numbers_ascend(&[low, high]))?;
+        check(!numbers_ascend(&[high, low]))?;
+        check(!numbers_ascend(&[low, low]))
+    }
+
+    #[test]
+    fn a_run_takes_what_lies_above() -> Result<(), Fail> {
+        let mut run = AscendingRun::new();
+        check(run.take(4u16))?;
+        check(!run.take(4u16))?;
+        check(run.take(9u16))?;
+        check(!run.take(6u16))
     }
 }

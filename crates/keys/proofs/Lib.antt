@@ -1,0 +1,4 @@
+pub mod BySize
+pub mod Places
+pub mod Tables
+pub mod Orders
