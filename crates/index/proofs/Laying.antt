@@ -19,7 +19,8 @@ use Rattle.write.specs.Bytes.{be}
 use Rattle.format.specs.Index.{concat, offsets, offset-size, size-of, index}
 use Rattle.format.proofs.Fixed.{length-be}
 use Rattle.format.proofs.Indexes.{at-least, length-index, concat-split}
-use Rattle.index.specs.Measures.{longest, short-index, index-length}
+use Rattle.sink.specs.Kinds.{longest}
+use Rattle.index.specs.Measures.{short-index, index-length}
 
 -- the length of an INDEX, by what was measured of its items
 pub length-is : (items : List (List ℕ)) (count data-len : ℕ) → count ≡ length items → data-len ≡ length (concat items) → index-length count data-len ≡ length (index items)

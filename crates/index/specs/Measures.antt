@@ -5,12 +5,9 @@ use mathlib.Core.List.{List, []}
 use Prim.Native.Nat.{ℕ, _+_, _*_, _≤_}
 use lib.Dec.{leb, eqb}
 use lib.ListN.{length}
+use Rattle.sink.specs.Kinds.{longest}
 use Rattle.format.specs.Index.{concat, offset-size, index}
 use Rattle.index.specs.declared.index.Measure.{Measure}
-
--- the most bytes that a table may have
-abbrev pub longest : ℕ
-longest = 268435455
 
 -- the bytes of an INDEX that a table may hold: where it would be too long, there are none
 abbrev pub short-index : List (List ℕ) → List ℕ

@@ -11,6 +11,10 @@ use Rattle.sink.specs.declared.buffer.Buffer.{Buffer}
 use Rattle.sink.specs.declared.counter.Counter.{Counter}
 use Rattle.sink.specs.declared.checksum.Checksum.{Checksum}
 
+-- the most bytes that a table may have
+abbrev pub longest : ℕ
+longest = 268435455
+
 -- A buffer may have been fed exactly the list that it holds.
 abbrev pub held : Meaning Buffer
 held =
@@ -41,7 +45,7 @@ summed =
     record {
       fed = λ s xs. (length xs ≡ s .bytes) × (checksum xs ≡ s .sum);
       count = λ s. s .bytes;
-      limit = λ s. 268435455;
+      limit = λ s. longest;
       loan = λ s. [];
       long = λ s xs h. h .0;
       within = λ s. s .ok;

@@ -4,13 +4,10 @@ use mathlib.Core.List.{List}
 use Prim.Native.Nat.{ℕ, _<_, _≤_}
 use lib.ListN.{length, take}
 use Rattle.sink.specs.Checksums.{checksum}
+use Rattle.sink.specs.Kinds.{longest}
 use Rattle.whole.specs.declared.DirectoryEntry.{DirectoryEntry}
 use Rattle.std.specs.declared.result.Result.{Result}
 use Rattle.std.specs.declared.result.Result.the-variants.{Ok, Err}
-
--- the most bytes that a table may have
-abbrev pub longest : ℕ
-longest = 268435455
 
 -- the most bytes that a number of the machine can count
 abbrev pub countable : ℕ
