@@ -1,0 +1,4 @@
+pub mod Stays
+pub mod Moves
+pub mod Still
+pub mod Cancelled
