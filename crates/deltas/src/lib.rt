@@ -1,4 +1,6 @@
 // Delta sets as they are handed in: numbers of any kind, parts, and the regions of the parts.
+#![tactic(auto)]
+
 pub mod number;
 mod parts;
 mod regions;

@@ -1,4 +1,6 @@
 // Numbers and lists of deltas in the shortest form that the format has for them.
+#![tactic(auto)]
+
 pub mod deltas;
 pub mod packed;
 pub mod runs;

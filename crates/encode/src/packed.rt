@@ -37,7 +37,7 @@ fn control_byte(width: Width, count: usize) -> u8
 // Writes a value in the bytes of its width.
 fn write_value<S: Sink>(width: Width, v: i32, sink: &mut S) -> Result<(), Full>
     requires { Holds width v }
-    ensures { WhileRoom meaning sink.old (value_bytes width v) result sink.new }
+    ensures { WhileRoom S.meaning sink.old (value_bytes width v) result sink.new }
 {
     match width {
         Width::Zero => Ok(()),
@@ -49,8 +49,8 @@ fn write_value<S: Sink>(width: Width, v: i32, sink: &mut S) -> Result<(), Full>
 
 // Writes a run: its control byte, and its values.
 fn write_run<V: Deltas, S: Sink>(values: &V, run: Run, sink: &mut S) -> Result<(), Full>
-    requires { RunOf (deltas values.now) run }
-    ensures { WhileRoom meaning sink.old (run_bytes run (deltas values.now)) result sink.new }
+    requires { RunOf (V.deltas values.now) run }
+    ensures { WhileRoom S.meaning sink.old (run_bytes run (V.deltas values.now)) result sink.new }
 {
     control_byte(run.width, run.count).write_while_room(sink)?;
     for i in run.place..run.place + run.count {
@@ -75,7 +75,7 @@ fn run_len(width: Width, count: usize) -> usize
 impl<V: Deltas> PackedDeltas<V> {
     // How many bytes the packing takes, counted run by run; where no number of the machine says it, the greatest one.
     pub fn measure(&self) -> usize
-        ensures { result ≡ measured (length (packed (deltas self.now.0))) }
+        ensures { result ≡ measured (length (packed (V.deltas self.now.0))) }
     {
         let mut total = 0usize;
         let mut runs = Runs::new(&self.0);

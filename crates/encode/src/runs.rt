@@ -41,15 +41,15 @@ fn width(v: i32) -> Width
 
 // The least width that holds the value at a place.
 fn width_at<V: Deltas>(values: &V, i: usize) -> Width
-    requires { i < length (deltas values.now) }
-    ensures { result ≡ wide (slice_index_or (deltas values.now) i (pos 0)) }
+    requires { i < length (V.deltas values.now) }
+    ensures { result ≡ wide (slice_index_or (V.deltas values.now) i (pos 0)) }
 {
     width(values.delta_at(i))
 }
 
 // Whether the values from a place on begin with a zero, or, where a narrow one is asked for, with a zero or a one-byte value.
 fn begins<V: Deltas>(values: &V, i: usize, narrow: bool) -> bool
-    ensures { result ≡ next (if narrow then is_narrow else is_zero) (drop i (deltas values.now)) }
+    ensures { result ≡ next (if narrow then is_narrow else is_zero) (drop i (V.deltas values.now)) }
 {
     if i >= values.len() {
         return false;
@@ -64,8 +64,8 @@ fn begins<V: Deltas>(values: &V, i: usize, narrow: bool) -> bool
 
 // Whether a run of width `w` stops before the value at a place.
 fn stops_at<V: Deltas>(w: Width, values: &V, i: usize) -> bool
-    requires { (i + 1 < 2 ^ 64) × (i < length (deltas values.now)) }
-    ensures { result ≡ stops w (wide (slice_index_or (deltas values.now) i (pos 0))) (drop (i + 1) (deltas values.now)) }
+    requires { (i + 1 < 2 ^ 64) × (i < length (V.deltas values.now)) }
+    ensures { result ≡ stops w (wide (slice_index_or (V.deltas values.now) i (pos 0))) (drop (i + 1) (V.deltas values.now)) }
 {
     match (w, width_at(values, i)) {
         (Width::Zero, Width::Zero) => false,
@@ -83,7 +83,7 @@ fn stops_at<V: Deltas>(w: Width, values: &V, i: usize) -> bool
 
 // The run that begins at a place: how many values it takes, and in which width; none at the end.
 pub fn next_run_len<V: Deltas>(values: &V, from: usize) -> (usize, Width)
-    ensures { result ≡ next_run (drop from (deltas values.now)) }
+    ensures { result ≡ next_run (drop from (V.deltas values.now)) }
 {
     let len = values.len();
     if from >= len {
@@ -109,7 +109,7 @@ impl<'a, V: Deltas> Runs<'a, V> {
     // The run that begins here, and on to the place after it.
     pub fn next_run(&mut self) -> Option<Run>
         ensures values { self.new.values.now ≡ self.old.values.now }
-        ensures steps { Steps (deltas self.old.values.now) self.old.place result self.new.place }
+        ensures steps { Steps (V.deltas self.old.values.now) self.old.place result self.new.place }
     {
         let place = self.place;
         if place >= self.values.len() {

@@ -1,5 +1,7 @@
 // What the bytes of a variable composite table (`VARC`) mean. The definitions stand in specs/, the plain records that they speak of
 // here, and the laws are the contracts of small functions.
+#![tactic(auto)]
+
 ghost use Rattle.format.specs.Examples.{Examples};
 ghost use Rattle.format.specs.Laws.{NumbersReadBack, PackedReadsBack, IndexReadsBack, ComponentsReadBack, TableReadsBack, TablesTellApart};
 

@@ -65,7 +65,7 @@ fn index_len(count: u32, data_len: u32) -> usize
 
 // Measures a bank; refused where its INDEX would be too long.
 fn measure_items<B: Items>(bank: &B) -> Result<Measure, TooLong>
-    ensures { MatchResult result (λ m. Measures (items bank.now) m) (λ _. longest < length (index (items bank.now))) }
+    ensures { MatchResult result (λ m. Measures (B.items bank.now) m) (λ _. longest < length (index (B.items bank.now))) }
 {
     let count = bank.count();
     let mut data_len = 0usize;
@@ -91,7 +91,7 @@ fn measure_items<B: Items>(bank: &B) -> Result<Measure, TooLong>
 // Writes an offset in so many bytes.
 fn write_offset<S: Sink>(size: u8, offset: u32, sink: &mut S) -> Result<(), Full>
     requires { size ≤ 4 }
-    ensures { WhileRoom meaning sink.old (be size offset) result sink.new }
+    ensures { WhileRoom S.meaning sink.old (be size offset) result sink.new }
 {
     let all = offset.to_be_bytes();
     put_all(&all[4 - size as usize..4], sink)
@@ -99,8 +99,8 @@ fn write_offset<S: Sink>(size: u8, offset: u32, sink: &mut S) -> Result<(), Full
 
 // Writes where each item begins, and where the last one ends, counted from 1.
 fn write_offsets<B: Items, S: Sink>(bank: &B, size: u8, sink: &mut S) -> Result<(), Full>
-    requires { (size ≤ 4) × (length (concat (items bank.now)) ≤ longest) }
-    ensures { WhileRoom meaning sink.old (flat_map (be size) (offsets 1 (items bank.now))) result sink.new }
+    requires { (size ≤ 4) × (length (concat (B.items bank.now)) ≤ longest) }
+    ensures { WhileRoom S.meaning sink.old (flat_map (be size) (offsets 1 (B.items bank.now))) result sink.new }
 {
     let mut offset = 1u32;
     for i in 0..bank.count() {
@@ -112,7 +112,7 @@ fn write_offsets<B: Items, S: Sink>(bank: &B, size: u8, sink: &mut S) -> Result<
 
 // Writes the items end to end.
 fn write_items<B: Items, S: Sink>(bank: &B, sink: &mut S) -> Result<(), Full>
-    ensures { WhileRoom meaning sink.old (concat (items bank.now)) result sink.new }
+    ensures { WhileRoom S.meaning sink.old (concat (B.items bank.now)) result sink.new }
 {
     for i in 0..bank.count() {
         bank.write_item(i, sink)?;
@@ -122,8 +122,8 @@ fn write_items<B: Items, S: Sink>(bank: &B, sink: &mut S) -> Result<(), Full>
 
 // Writes the INDEX of a bank that was measured.
 fn write_index<B: Items, S: Sink>(bank: &B, m: Measure, sink: &mut S) -> Result<(), Full>
-    requires { Measures (items bank.now) m }
-    ensures { WhileRoom meaning sink.old (index (items bank.now)) result sink.new }
+    requires { Measures (B.items bank.now) m }
+    ensures { WhileRoom S.meaning sink.old (index (B.items bank.now)) result sink.new }
 {
     if m.count == 0 {
         return 0u32.write_while_room(sink);
@@ -140,7 +140,7 @@ impl<B: Items> Index<B> {
     pub fn from_items(bank: B) -> Result<Index<B>, TooLong>
     where
         B: Drop,
-        ensures { MatchResult result (λ x. (x.bank ≡ bank) × (short_index (items x.bank) ≡ index (items bank))) (λ _. longest < length (index (items bank))) }
+        ensures { MatchResult result (λ x. (x.bank ≡ bank) × (short_index (B.items x.bank) ≡ index (B.items bank))) (λ _. longest < length (index (B.items bank))) }
     {
         measure_items(&bank)?;
         Ok(Index { bank })
@@ -148,7 +148,7 @@ impl<B: Items> Index<B> {
 
     // How many bytes it takes.
     pub fn measure(&self) -> usize
-        ensures { result ≡ length (short_index (items self.now.bank)) }
+        ensures { result ≡ length (short_index (B.items self.now.bank)) }
     {
         match measure_items(&self.bank) {
             Ok(m) => index_len(m.count, m.data_len),

@@ -22,7 +22,7 @@ pub trait Items {
     // Writes an item as long as the sink has room.
     fn write_item<S: Sink>(&self, i: usize, sink: &mut S) -> Result<(), Full>
         requires { i < length (items self.now) }
-        ensures { WhileRoom meaning sink.old (slice_index_or (items self.now) i []) result sink.new };
+        ensures { WhileRoom S.meaning sink.old (slice_index_or (items self.now) i []) result sink.new };
 }
 
 // Items that are given as byte strings.

@@ -1,4 +1,6 @@
 // An INDEX: a count, an offset size, offsets from 1, and the bytes of the items end to end.
+#![tactic(auto)]
+
 pub mod index;
 pub mod items;
 

@@ -11,7 +11,7 @@ pub record Sameness (M : Type 0) : Type 0 where
 
 -- The same number.
 abbrev pub numbers : Sameness ℕ
-numbers = record { test = eqb; exact = Decides-eqb }
+numbers = record { test = λ m n. m == n; exact = Decides-eqb }
 
 -- The same signed number.
 abbrev pub same_integer : ℤ → ℤ → Bool

@@ -4,7 +4,7 @@ ghost use Rattle.keys.specs.Sameness.{Sameness};
 
 // What things are told apart by, as a region, a delta set or an axis list. A key may hold slices: it is known by what it means
 // alone. A further key is added by an `impl` with
-//   what it means, as `ghost Meaning = { List ℕ }; ghost meaning = { λ k. behind k.axes };`,
+//   what it means, as `ghost Meaning = { List ℕ }; ghost meaning = { λ k. k.axes.now };`,
 //   the test of such meanings, put together from those of its parts, as `ghost sameness = { lists numbers };`,
 //   and `same`, which compares two keys as it likes.
 pub trait Key {

@@ -5,7 +5,6 @@ pub mod numbers;
 pub mod order;
 pub mod run;
 
-use crate::numbers::Key as _;
 pub use bank::{Bank, Placed, find, place_of};
 pub use key::{Key, Sought};
 pub use numbers::{Numbered, Numbers, numbers_ascend};

@@ -1,4 +1,6 @@
 // A job's working memory: its records, how far they are filled, and the test that they fit together.
+#![tactic(auto)]
+
 pub mod fit;
 pub mod memory;
 pub mod records;

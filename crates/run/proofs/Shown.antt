@@ -17,7 +17,7 @@ abbrev with_token : OpenComposite → Step → Step
 with_token t s = record { answer = s.answer; «open» = Some t }
 
 some_none : {X : Type 0} (x : X) → None ≡ Some x → ⊥
-some_none x ()
+some_none x e = cc
 
 shown_with : {X : Type 0} (t : OpenComposite) (r : Result X Refusal) → with_token t (shown t r) ≡ shown t r
 shown_with t (Ok _) = refl

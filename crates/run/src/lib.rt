@@ -1,4 +1,6 @@
 // A job's calls, one after the other, as a script has them.
+#![tactic(auto)]
+
 pub mod step;
 
 pub use step::{Answer, OnOpen, Step};

@@ -1,4 +1,6 @@
 // Scripts: a job's calls as text, one a line, read before any of them is run.
+#![tactic(auto)]
+
 pub mod call;
 pub mod hex;
 mod line;

@@ -1,4 +1,6 @@
 // Sinks: where bytes go.
+#![tactic(auto)]
+
 pub mod buffer;
 pub mod checksum;
 pub mod counter;

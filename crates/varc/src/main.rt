@@ -1,4 +1,6 @@
 // varc: the command line. What matters is in the libraries; here are arguments, files and messages.
+#![tactic(auto)]
+
 mod encode_lines;
 mod sum;
 

@@ -1,4 +1,6 @@
 // Examples that are run: worked by hand, or answered by other software.
+#![tactic(auto)]
+
 #[cfg(test)]
 mod tests {
     use format::Coordinate;

@@ -1,4 +1,6 @@
 // What people ask of a value: to be written whole or not at all, its length, its checksum, its bytes in a slice.
+#![tactic(auto)]
+
 ghost use Rattle.std.specs.Prelude.{◌≡◌, ◌<◌, length, IfOk, MatchResult};
 ghost use Rattle.sink.specs.Meaning.{Whole};
 ghost use Rattle.whole.specs.Asked.{countable, Enters, Encodes};
@@ -12,7 +14,7 @@ type Measure = Counter<18446744073709551615>;
 
 // Writes the value whole, or not at all: it measures first, compares with the room, and only then feeds.
 pub fn write_into<T: FontWrite, S: Sink>(value: &T, sink: &mut S) -> Result<(), Full>
-    ensures { Whole meaning sink.old (bytes value.now) result sink.new }
+    ensures { Whole S.meaning sink.old (T.bytes value.now) result sink.new }
 {
     let room = sink.limit() - sink.count();
     if length_of(value)? > room {
@@ -26,7 +28,7 @@ pub fn write_into<T: FontWrite, S: Sink>(value: &T, sink: &mut S) -> Result<(), 
 
 // How many bytes a value takes; refused where no number of the machine can say.
 pub fn length_of<T: FontWrite>(value: &T) -> Result<usize, Full>
-    ensures { MatchResult result (λ n. n ≡ length (bytes value.now)) (λ _. countable < length (bytes value.now)) }
+    ensures { MatchResult result (λ n. n ≡ length (T.bytes value.now)) (λ _. countable < length (T.bytes value.now)) }
 {
     let mut measure = Measure::new();
     value.write_while_room(&mut measure)?;
@@ -42,7 +44,7 @@ pub struct DirectoryEntry {
 
 // The checksum and the length of a value's bytes; refused where they are more than a table may have.
 pub fn directory_entry<T: FontWrite>(value: &T) -> Result<DirectoryEntry, Full>
-    ensures { Enters (bytes value.now) result }
+    ensures { Enters (T.bytes value.now) result }
 {
     let mut sum = Checksum::new();
     write_into(value, &mut sum)?;
@@ -54,7 +56,7 @@ pub fn directory_entry<T: FontWrite>(value: &T) -> Result<DirectoryEntry, Full>
 
 // Writes a value to the start of a slice, and says how many bytes that took.
 pub fn write_to_slice<T: FontWrite>(value: &T, out: &mut [u8]) -> Result<usize, Full>
-    ensures { Encodes out.old (bytes value.now) result out.new }
+    ensures { Encodes out.old (T.bytes value.now) result out.new }
 {
     let mut buffer = Buffer::new(out);
     match write_into(value, &mut buffer) {
@@ -65,7 +67,7 @@ pub fn write_to_slice<T: FontWrite>(value: &T, out: &mut [u8]) -> Result<usize, 
 
 // The bytes of a value; fails only for want of memory.
 pub fn to_vec<T: FontWrite>(heap: Global, value: &T) -> Result<Vec<u8>, AllocError>
-    ensures { IfOk result (λ v. v.items ≡ bytes value.now) }
+    ensures { IfOk result (λ v. v.items ≡ T.bytes value.now) }
 {
     let Ok(length) = length_of(value) else {
         return Err(AllocError);

@@ -1,4 +1,6 @@
 // Values that stand for bytes, and how their bytes go into a sink.
+#![tactic(auto)]
+
 pub mod numbers;
 pub mod parts;
 pub mod uint24;

@@ -12,12 +12,12 @@ pub trait FontWrite {
     // Writes the value's bytes as long as the sink has room: all of them, or at a refusal as many of the first as there
     // was room for.
     fn write_while_room<S: Sink>(&self, sink: &mut S) -> Result<(), Full>
-        ensures { WhileRoom meaning sink.old (bytes self.now) result sink.new };
+        ensures { WhileRoom S.meaning sink.old (bytes self.now) result sink.new };
 }
 
 // Feeds the bytes one after the other, as long as there is room.
 pub fn put_all<S: Sink>(all: &[u8], sink: &mut S) -> Result<(), Full>
-    ensures { WhileRoom meaning sink.old all.now result sink.new }
+    ensures { WhileRoom S.meaning sink.old all.now result sink.new }
 {
     for b in all {
         sink.put(*b)?;
@@ -27,7 +27,7 @@ pub fn put_all<S: Sink>(all: &[u8], sink: &mut S) -> Result<(), Full>
 
 // Writes the values one after the other, as long as there is room.
 pub fn write_each<T: FontWrite, S: Sink>(values: &[T], sink: &mut S) -> Result<(), Full>
-    ensures { WhileRoom meaning sink.old (flat_map bytes values.now) result sink.new }
+    ensures { WhileRoom S.meaning sink.old (flat_map T.bytes values.now) result sink.new }
 {
     for v in values {
         v.write_while_room(sink)?;

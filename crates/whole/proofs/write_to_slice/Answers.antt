@@ -7,7 +7,7 @@ pub returns-in-Ok : goal.returns-in-Ok
 returns-in-Ok g c =
     let t = c.in-Ok.ensures in
     let bytes = g.T.FontWrite.bytes c.args.value.now in
-    let last = c.write-into.new.sink in
+    let last = c.write_into.new.sink in
     let fresh = c.new-buffer.ensures.fresh.0 in
     let n : c.count.result ≡ length bytes = omega (arith, c.count.ensures, t.counts, held.long c.new-buffer.result [] fresh) in
     let front : take c.count.result last.room.now ≡ bytes = ap (λ k. take k last.room.now) n ∙ held_front last bytes (t.feeds [] fresh) in

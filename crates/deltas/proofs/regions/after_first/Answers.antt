@@ -5,4 +5,4 @@ use Rattle.deltas.proofs.regions.after_first.Goals as goal
 
 pub returns : goal.returns
 returns c =
-    begins c.args.region.now _ c.args.c.now _ (omega (arith, eqb-false (length c.args.region.now) 0 (sym c.if-is-empty.ensures))) c.same-coordinate.ensures c.if-not-same-coordinate.false
+    begins c.args.region.now _ c.args.c.now _ (omega (arith, eqb-false (length c.args.region.now) 0 (sym c.if-is_empty.ensures))) c.same_coordinate.ensures c.if-not-same_coordinate.false

@@ -7,9 +7,9 @@ pub loop-c-preserved-then-not-peaks : goal.loop-c-preserved-then-not-peaks
 loop-c-preserved-then-not-peaks c =
     agree_skips _ _ _ _ c.loop-c.invariant _ (kept_skip c.args.given.now c.loop-c.c-index _ _ c.loop-c-test.true c.peaks.ensures c.if-not-peaks.true)
 
-pub returns-in-default : goal.returns-in-default
-returns-in-default c =
-    agree_stops _ _ _ _ c.loop-c.invariant _ _ (kept_next c.args.given.now c.loop-c.c-index _ _ c.loop-c-test.true c.peaks.ensures c.if-not-peaks.false) c.in-default.ensures
+pub returns-in_default : goal.returns-in_default
+returns-in_default c =
+    agree_stops _ _ _ _ c.loop-c.invariant _ _ (kept_next c.args.given.now c.loop-c.c-index _ _ c.loop-c-test.true c.peaks.ensures c.if-not-peaks.false) c.in_default.ensures
 
 pub loop-c-preserved : goal.loop-c-preserved
 loop-c-preserved c =

@@ -5,49 +5,49 @@ use Rattle.format.specs.Packed.{bytes}
 use Rattle.encode.proofs.Packing.{run_ends, run_holds, run_written, part-next, part_none}
 use Rattle.encode.proofs.packed.write_run.Goals as goal
 
-pub control-byte-requires : goal.control-byte-requires
-control-byte-requires g c = let e = run_ends (g.V.Deltas.deltas c.args.values.now) c.args.run c.requires in (e.0, e.1)
+pub control_byte-requires : goal.control_byte-requires
+control_byte-requires g c = let e = run_ends (g.V.Deltas.deltas c.args.values.now) c.args.run c.requires in (e.0, e.1)
 
-pub returns-in-err-write-while-room : goal.returns-in-err-write-while-room
-returns-in-err-write-while-room g c =
+pub returns-in_err-write_while_room : goal.returns-in_err-write_while_room
+returns-in_err-write_while_room g c =
     let vs = g.V.Deltas.deltas c.args.values.now in
-    let whole = run_written vs c.args.run c.requires c.control-byte.result c.control-byte.ensures in
-    while_room_err c.from-residual.result c.from-residual.ensures.0
-    (subst (λ xs. Stops g.S.Sink.meaning c.args.sink.now xs c.write-while-room.new.sink) whole (stops-before _ c.in-err-write-while-room.ensures))
+    let whole = run_written vs c.args.run c.requires c.control_byte.result c.control_byte.ensures in
+    while_room_err c.from_residual.result c.from_residual.ensures.0
+    (subst (λ xs. Stops g.S.Sink.meaning c.args.sink.now xs c.write_while_room.new.sink) whole (stops-before _ c.in_err-write_while_room.ensures))
 
 pub loop-i-init : goal.loop-i-init
 loop-i-init g c = leaves_start _ _
 
-pub delta-at-requires : goal.delta-at-requires
-delta-at-requires g c = let e = run_ends (g.V.Deltas.deltas c.args.values.now) c.args.run c.requires in omega (arith, e.2)
+pub delta_at-requires : goal.delta_at-requires
+delta_at-requires g c = let e = run_ends (g.V.Deltas.deltas c.args.values.now) c.args.run c.requires in omega (arith, e.2)
 
-pub write-value-requires : goal.write-value-requires
-write-value-requires g c =
-    let fits : SFits w32 c.delta-at.result = search rules in
-    run_holds (g.V.Deltas.deltas c.args.values.now) c.args.run c.requires c.loop-i.i c.delta-at.result (omega arith) (omega arith) fits c.delta-at.ensures
+pub write_value-requires : goal.write_value-requires
+write_value-requires g c =
+    let fits : SFits w32 c.delta_at.result = search rules in
+    run_holds (g.V.Deltas.deltas c.args.values.now) c.args.run c.requires c.loop-i.i c.delta_at.result (omega arith) (omega arith) fits c.delta_at.ensures
 
-pub returns-in-err-write-value : goal.returns-in-err-write-value
-returns-in-err-write-value g c =
+pub returns-in_err-write_value : goal.returns-in_err-write_value
+returns-in_err-write_value g c =
     let vs = g.V.Deltas.deltas c.args.values.now in
     let e = run_ends vs c.args.run c.requires in
-    let whole = run_written vs c.args.run c.requires c.control-byte.result c.control-byte.ensures in
-    let fits : SFits w32 c.delta-at.result = search rules in
-    let rest = part-next (bytes c.args.run.width) vs c.loop-i.i (c.args.run.place + c.args.run.count) c.delta-at.result c.loop-i-test.true (omega (arith, e.2)) fits c.delta-at.ensures in
-    while_room_err c.from-residual-in-err-write-value.result c.from-residual-in-err-write-value.ensures.0
-    (subst (λ xs. Stops g.S.Sink.meaning c.args.sink.now xs c.write-value.new.sink) whole
-    (stops_then c.in-ok-write-while-room.ensures (leaves_stop _ c.loop-i.invariant c.in-err-write-value.ensures rest)))
+    let whole = run_written vs c.args.run c.requires c.control_byte.result c.control_byte.ensures in
+    let fits : SFits w32 c.delta_at.result = search rules in
+    let rest = part-next (bytes c.args.run.width) vs c.loop-i.i (c.args.run.place + c.args.run.count) c.delta_at.result c.loop-i-test.true (omega (arith, e.2)) fits c.delta_at.ensures in
+    while_room_err c.from_residual-in_err-write_value.result c.from_residual-in_err-write_value.ensures.0
+    (subst (λ xs. Stops g.S.Sink.meaning c.args.sink.now xs c.write_value.new.sink) whole
+    (stops_then c.in_ok-write_while_room.ensures (leaves_stop _ c.loop-i.invariant c.in_err-write_value.ensures rest)))
 
 pub loop-i-preserved : goal.loop-i-preserved
 loop-i-preserved g c =
     let vs = g.V.Deltas.deltas c.args.values.now in
     let e = run_ends vs c.args.run c.requires in
-    let fits : SFits w32 c.delta-at.result = search rules in
-    leaves_step _ c.loop-i.invariant c.in-ok-write-value.ensures
-    (part-next (bytes c.args.run.width) vs c.loop-i.i (c.args.run.place + c.args.run.count) c.delta-at.result c.loop-i-test.true (omega (arith, e.2)) fits c.delta-at.ensures)
+    let fits : SFits w32 c.delta_at.result = search rules in
+    leaves_step _ c.loop-i.invariant c.in_ok-write_value.ensures
+    (part-next (bytes c.args.run.width) vs c.loop-i.i (c.args.run.place + c.args.run.count) c.delta_at.result c.loop-i-test.true (omega (arith, e.2)) fits c.delta_at.ensures)
 
 pub returns : goal.returns
 returns g c =
     let vs = g.V.Deltas.deltas c.args.values.now in
-    let whole = run_written vs c.args.run c.requires c.control-byte.result c.control-byte.ensures in
+    let whole = run_written vs c.args.run c.requires c.control_byte.result c.control_byte.ensures in
     subst (λ xs. Takes g.S.Sink.meaning c.args.sink.now xs c.loop-i.sink) whole
-    (takes_then c.in-ok-write-while-room.ensures (leaves_end c.loop-i.invariant (part_none (bytes c.args.run.width) vs c.loop-i.i (c.args.run.place + c.args.run.count) c.loop-i-test.false)))
+    (takes_then c.in_ok-write_while_room.ensures (leaves_end c.loop-i.invariant (part_none (bytes c.args.run.width) vs c.loop-i.i (c.args.run.place + c.args.run.count) c.loop-i-test.false)))

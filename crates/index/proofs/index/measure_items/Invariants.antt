@@ -4,4 +4,4 @@ use Rattle.encode.specs.Lengths.{measured}
 use Rattle.index.proofs.index.measure_items.Given as goal
 
 abbrev pub invariant-loop-i : goal.invariant-loop-i
-invariant-loop-i g l = l.data-len ≡ measured (length (concat (take l.i (g.B.Items.items l.bank))))
+invariant-loop-i g l = l.data_len ≡ measured (length (concat (take l.i (g.B.Items.items l.bank))))

@@ -6,5 +6,5 @@ use Rattle.index.proofs.index.write_offset.Goals as goal
 pub returns : goal.returns
 unfolding be
 returns g c =
-    let is : c.to-be-bytes-all.result ≡ be 4 c.args.offset = search rules in
-    rw (last_bytes c.args.size c.args.offset c.to-be-bytes-all.result c.requires is) at c.put-all.ensures
+    let is : c.to_be_bytes-all.result ≡ be 4 c.args.offset = search rules in
+    rw (last_bytes c.args.size c.args.offset c.to_be_bytes-all.result c.requires is) at c.put_all.ensures

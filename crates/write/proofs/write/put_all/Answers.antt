@@ -3,12 +3,12 @@ use Rattle.sink.proofs.Feeding.{leaves_step, leaves_stop, leaves_end, stops_full
 use Rattle.write.proofs.write.put_all.Goals as goal
 
 pub loop-b-preserved : goal.loop-b-preserved
-loop-b-preserved g c = leaves_step _ c.loop-b.invariant c.in-ok-put.ensures (drop_more c.args.all.now c.loop-b.b-index 0 c.loop-b-test.true)
+loop-b-preserved g c = leaves_step _ c.loop-b.invariant c.in_ok-put.ensures (drop_more c.args.all.now c.loop-b.b-index 0 c.loop-b-test.true)
 
-pub returns-in-err-put : goal.returns-in-err-put
-returns-in-err-put g c =
-    let full = c.in-err-put.ensures in
-    while_room_err c.from-residual.result c.from-residual.ensures.0
+pub returns-in_err-put : goal.returns-in_err-put
+returns-in_err-put g c =
+    let full = c.in_err-put.ensures in
+    while_room_err c.from_residual.result c.from_residual.ensures.0
     (leaves_stop {u = c.put.new.self} _ c.loop-b.invariant (stops_full _ full.0 full.1) (drop_more c.args.all.now c.loop-b.b-index 0 c.loop-b-test.true))
 
 pub returns : goal.returns

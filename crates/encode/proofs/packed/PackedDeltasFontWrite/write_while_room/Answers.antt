@@ -11,8 +11,8 @@ loop-run-init g c =
     let vs = g.V.Deltas.deltas c.args.self.now.0 in
     (c.new-runs.ensures.values, subst (λ n. Leaves g.S.Sink.meaning c.args.sink.now (packed vs) (packed (drop n vs)) c.args.sink.now) (sym c.new-runs.ensures.place) (leaves_start _ _))
 
-pub write-run-requires : goal.write-run-requires
-write-run-requires g c =
+pub write_run-requires : goal.write_run-requires
+write_run-requires g c =
     let s = subst (λ v. Steps (g.V.Deltas.deltas v) c.loop-run.runs.place (Some c.in-Some.run') c.next_run.new.self.place) c.loop-run.invariant.0 c.in-Some.ensures.steps in
     s.1
 
@@ -25,17 +25,17 @@ pub loop-run-preserved : goal.loop-run-preserved
 loop-run-preserved g c =
     let s = subst (λ v. Steps (g.V.Deltas.deltas v) c.loop-run.runs.place (Some c.in-Some.run') c.next_run.new.self.place) c.loop-run.invariant.0 c.in-Some.ensures.steps in (
       c.in-Some.ensures.values ∙ c.loop-run.invariant.0,
-      leaves_step _ c.loop-run.invariant.1 c.in-ok-write-run.ensures (step_next (g.V.Deltas.deltas c.args.self.now.0) c.loop-run.runs.place c.in-Some.run' c.next_run.new.self.place s),
+      leaves_step _ c.loop-run.invariant.1 c.in_ok-write_run.ensures (step_next (g.V.Deltas.deltas c.args.self.now.0) c.loop-run.runs.place c.in-Some.run' c.next_run.new.self.place s),
     )
 
-pub returns-in-err-write-run : goal.returns-in-err-write-run
-returns-in-err-write-run g c =
+pub returns-in_err-write_run : goal.returns-in_err-write_run
+returns-in_err-write_run g c =
     let s = subst (λ v. Steps (g.V.Deltas.deltas v) c.loop-run.runs.place (Some c.in-Some.run') c.next_run.new.self.place) c.loop-run.invariant.0 c.in-Some.ensures.steps in
-    while_room_err c.from-residual.result c.from-residual.ensures.0
-    (leaves_stop _ c.loop-run.invariant.1 c.in-err-write-run.ensures (step_next (g.V.Deltas.deltas c.args.self.now.0) c.loop-run.runs.place c.in-Some.run' c.next_run.new.self.place s))
+    while_room_err c.from_residual.result c.from_residual.ensures.0
+    (leaves_stop _ c.loop-run.invariant.1 c.in_err-write_run.ensures (step_next (g.V.Deltas.deltas c.args.self.now.0) c.loop-run.runs.place c.in-Some.run' c.next_run.new.self.place s))
 
 pub returns : goal.returns
 unfolding pack
 returns g c =
-    let s = subst (λ v. Steps (g.V.Deltas.deltas v) c.loop-run.runs.place None c.next_run.new.self.place) c.loop-run.invariant.0 c.in-default.ensures.steps in
+    let s = subst (λ v. Steps (g.V.Deltas.deltas v) c.loop-run.runs.place None c.next_run.new.self.place) c.loop-run.invariant.0 c.in_default.ensures.steps in
     leaves_end c.loop-run.invariant.1 (at_drop_all packed (g.V.Deltas.deltas c.args.self.now.0) c.loop-run.runs.place s.0)

@@ -13,12 +13,12 @@ returns c =
     let fits = c.requires.fits in
     let room = c.requires.room in
     let leaves =
-    component_leaves j _ fits g c.pairs-of-new.result.now _ c.spanning-axes.result
-    c.pairs-of-new.ensures c.spanning-axes.ensures room.component.within c.append.ensures in
+    component_leaves j _ fits g c.pairs_of-new.result.now _ c.spanning-axes.result
+    c.pairs_of-new.ensures c.spanning-axes.ensures room.component.within c.append.ensures in
     record {
       leaves = leaves;
       kept =
-          still_fits _ _ _ _ _ _ _ _ _ fits refl (omega (arith, c.append.auto.list, room.pairs.within, ap length c.pairs-of-new.ensures))
+          still_fits _ _ _ _ _ _ _ _ _ fits refl (omega (arith, c.append.auto.list, room.pairs.within, ap length c.pairs_of-new.ensures))
           (simp length-set room.component.within) fits.counted.composites (ap (λ s. s.held) leaves)
           (added_sound j _ fits g c.requires.order c.requires.gid c.requires.ids);
       below = λ h. subst Below (sym leaves) (added_below j _ fits g h);

@@ -3,8 +3,8 @@ use Rattle.std.proofs.lemmas.List.{length-map}
 use Rattle.keys.proofs.BySize.{reads_number}
 use Rattle.keys.proofs.numbers.NumbersBank.key_at.Goals as goal
 
-pub offset-bounds-self-i : goal.offset-bounds-self-i
-offset-bounds-self-i g c = let l = simp length-map at c.requires in search rules
+pub offset_bounds-self-i : goal.offset_bounds-self-i
+offset_bounds-self-i g c = let l = simp length-map at c.requires in search rules
 
 pub bounds-self-i : goal.bounds-self-i
 bounds-self-i g c = simp length-map at c.requires

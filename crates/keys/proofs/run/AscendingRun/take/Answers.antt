@@ -4,7 +4,7 @@ use Rattle.keys.proofs.run.AscendingRun.take.Goals as goal
 
 pub returns-then-not-admits : goal.returns-then-not-admits
 returns-then-not-admits g c =
-    record { takes = takes_not g.K.OrderedKey.order g.K-as-Key.meaning _ _ c.admits.ensures.ties _ refl c.if-not-admits.ensures.above; ties = c.admits.ensures.ties }
+    record { takes = takes_not g.K.OrderedKey.order g.K.Key.meaning _ _ c.admits.ensures.ties _ refl c.if-not-admits.ensures.above; ties = c.admits.ensures.ties }
 
 pub returns : goal.returns
-returns g c = record { takes = takes g.K.OrderedKey.order g.K-as-Key.meaning _ _ c.admits.ensures.ties c.if-not-admits.ensures.above; ties = c.admits.ensures.ties }
+returns g c = record { takes = takes g.K.OrderedKey.order g.K.Key.meaning _ _ c.admits.ensures.ties c.if-not-admits.ensures.above; ties = c.admits.ensures.ties }

@@ -4,4 +4,4 @@ use Rattle.memory.proofs.fit.each.part_ascends.Goals as goal
 
 pub returns : goal.returns
 returns g c =
-    subst (λ ys. Decides c.numbers-ascend.result (AscendingNumbers (map g.T.Numbered.number ys))) c.part-of.ensures c.numbers-ascend.ensures
+    subst (λ ys. Decides c.numbers_ascend.result (AscendingNumbers (map g.T.Numbered.number ys))) c.part_of.ensures c.numbers_ascend.ensures

@@ -4,4 +4,4 @@ use Rattle.memory.proofs.fit.each.part_passes.Goals as goal
 
 pub returns : goal.returns
 returns g c =
-    subst (λ ys. Decides c.all-pass.result (All (g.C.Test.Passes c.args.test.now) ys)) c.part-of.ensures c.all-pass.ensures
+    subst (λ ys. Decides c.all_pass.result (All (g.C.Test.Passes c.args.test.now) ys)) c.part_of.ensures c.all_pass.ensures

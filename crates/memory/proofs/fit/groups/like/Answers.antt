@@ -9,11 +9,11 @@ loop-i-preserved-then-not-same c =
     let es = c.args.bank.now.entries.now in
     let ss = c.args.bank.now.sets.now in
     let l : c.loop-i.i < length ss = omega (arith, long_keys es ss) in
-    let more = like-more (region_lists es ss) _ c.loop-i.i _ (omega (arith, long_lists es ss)) (key_reads es ss c.loop-i.i c.key-at.result l c.key-at.ensures) false c.if-not-same.ensures in
+    let more = like-more (region_lists es ss) _ c.loop-i.i _ (omega (arith, long_lists es ss)) (key_reads es ss c.loop-i.i c.key_at.result l c.key_at.ensures) false c.if-not-same.ensures in
     omega arith
 
-pub overflow-add-count : goal.overflow-add-count
-overflow-add-count c =
+pub overflow_add-count : goal.overflow_add-count
+overflow_add-count c =
     let es = c.args.bank.now.entries.now in
     let ss = c.args.bank.now.sets.now in
     let small : c.loop-i.count ≤ c.loop-i.i = omega (arith, like_small (region_lists es ss) (map (λ e. e.region) c.args.key.now.entries.now) c.loop-i.i) in
@@ -24,7 +24,7 @@ loop-i-preserved c =
     let es = c.args.bank.now.entries.now in
     let ss = c.args.bank.now.sets.now in
     let l : c.loop-i.i < length ss = omega (arith, long_keys es ss) in
-    let more = like-more (region_lists es ss) _ c.loop-i.i _ (omega (arith, long_lists es ss)) (key_reads es ss c.loop-i.i c.key-at.result l c.key-at.ensures) true c.if-not-same.ensures in
+    let more = like-more (region_lists es ss) _ c.loop-i.i _ (omega (arith, long_lists es ss)) (key_reads es ss c.loop-i.i c.key_at.result l c.key_at.ensures) true c.if-not-same.ensures in
     omega arith
 
 pub returns : goal.returns
