@@ -1,10 +1,2 @@
-// Adding a delta set to what a job holds.
+// Adding a delta set to what a job holds: what stands so far are lemmas, in proofs/, that what is added keeps the memory sound.
 #![tactic(auto)]
-
-ghost use Rattle.std.specs.Prelude.{◌≡◌};
-
-pub fn dummy(x: u32) -> u32
-    ensures { result ≡ x }
-{
-    x
-}

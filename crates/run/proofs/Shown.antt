@@ -29,7 +29,7 @@ pub still_shown : (j : Job) (l : Lists) (t : OpenComposite) (call : OnOpen) (s :
 still_shown j l t (Component c) s after left (r, adds, is) held = (r, adds, ap (with_token t) is ∙ shown_with t r)
 still_shown j l t Close s after left (Ok x, closes, is) held = absurd (some_none left (sym (ap (λ x. x.«open») is) ∙ held))
 still_shown j l t Close s after left (Err k, closes, is) held =
-    (Err k, closes, ap (with_token t) is ∙ ap (λ x. record { answer = Refused k.refusal; «open» = Some x }) (sym closes.1.0))
+    (Err k, closes, ap (with_token t) is ∙ ap (λ x. record { answer = Refused k.refusal; «open» = Some x }) (sym closes.1))
 still_shown j l t Cancel s after left (Ok x, cancels, is) held = absurd (some_none left (sym (ap (λ x. x.«open») is) ∙ held))
 still_shown j l t Cancel s after left (Err k, cancels, is) held =
-    (Err k, cancels, ap (with_token t) is ∙ ap (λ x. record { answer = Refused k.refusal; «open» = Some x }) (sym cancels.1.0))
+    (Err k, cancels, ap (with_token t) is ∙ ap (λ x. record { answer = Refused k.refusal; «open» = Some x }) (sym cancels.1))
