@@ -1,5 +1,5 @@
 -- Whether what a delta set adds stays within the limits.
-use Rattle.std.specs.Prelude.{ℕ, ◌+◌, ◌≤◌, length}
+use Rattle.std.specs.Prelude.{◌+◌, ◌≤◌, length}
 use Rattle.std.specs.List.{AllByRecursion as All}
 use Rattle.memory.specs.Groups.{GroupsFit}
 use Rattle.memory.specs.Lists.{Lists}

@@ -1,8 +1,8 @@
 -- Numbers that strictly ascend, and what is kept of them.
-use Rattle.std.proofs.Common.{◌≡◌, ℕ, zero, suc, ◌+◌, ◌<◌, ◌≤◌, Bool, true, false, cond, List, [], ◌∷◌, map, length, get_or, filter, arith}
+use Rattle.std.proofs.Common.{ℕ, zero, suc, ◌+◌, ◌<◌, Bool, true, false, cond, List, [], ◌∷◌, map, length, get_or, filter, arith}
 use native.Mathlib.Numerals.{unary_clauses}
 use Rattle.std.specs.List.{AllByRecursion as All}
-use Rattle.std.proofs.ByRecursion.{All-weaker, All-get_or, all_kept_by}
+use Rattle.std.proofs.ByRecursion.{All-weaker, All-get_or}
 use Rattle.keys.specs.Numbers.{AscendingNumbers}
 
 -- each number lies below all that follow

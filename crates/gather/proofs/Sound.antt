@@ -1,11 +1,11 @@
 -- What a job holds is sound with a delta set added, where it was before.
-use Rattle.std.proofs.Common.{◌≡◌, ℕ, suc, ◌+◌, ◌<◌, ◌≤◌, Bool, true, false, cond, not, ◌⊎◌, List, [], ◌∷◌, ◌++◌, map, length, take, drop, ℤ, IfSome, Some, None, filter, Option, sym, refl, ap, ◌∙◌, subst, inl, inr, ⊎_elim, arith}
+use Rattle.std.proofs.Common.{◌≡◌, ℕ, suc, ◌+◌, ◌<◌, ◌≤◌, Bool, true, false, cond, not, List, [], ◌∷◌, ◌++◌, map, length, drop, ℤ, IfSome, Some, None, Option, sym, refl, ap, ◌∙◌, subst, inl, inr, ⊎_elim, arith}
 use Rattle.std.proofs.ByRecursion.{All-append, All-weaker, all_kept_by}
-use Rattle.std.proofs.lemmas.List.{append_assoc, append-nil, length-append, length-take-le, length-drop}
+use Rattle.std.proofs.lemmas.List.{append_assoc, length-append, length-take-le, length-drop}
 use Rattle.std.specs.List.{flat_map, AllByRecursion as All}
 use Rattle.format.specs.declared.Coordinate.{Coordinate}
 use Rattle.keys.specs.Numbers.{AscendingNumbers}
-use Rattle.memory.specs.Fit.{Sound, RegionFits, EntryFits, SetFits, ComponentFits, Known, Tuple, Within}
+use Rattle.memory.specs.Fit.{Sound, RegionFits, EntryFits, SetFits, ComponentFits, Known, Tuple}
 use Rattle.memory.specs.Lists.{Lists, part}
 use Rattle.memory.specs.declared.memory.Mark.{Mark}
 use Rattle.memory.specs.declared.records.Component.{Component}

@@ -2,7 +2,6 @@
 use Rattle.std.proofs.Common.{◌≡◌, ◌-◌, IfSome, Some, None, refl, ap, ◌∙◌, subst, arith}
 use Rattle.memory.specs.Fit.{Fits}
 use Rattle.memory.specs.Lists.{Lists, held}
-use Rattle.memory.specs.declared.memory.Counts.{Counts}
 use Rattle.memory.specs.declared.memory.Mark.{Mark}
 use Rattle.job.specs.Composites.{with_counts, cancelled_at, BelowMark, Below}
 use Rattle.job.specs.Outcome.{JobFits, state}

@@ -1,10 +1,10 @@
 -- What the calls leave.
-use Rattle.std.proofs.Common.{◌≡◌, ℕ, ◌+◌, ◌-◌, ◌<◌, ◌≤◌, List, [], ◌∷◌, ◌++◌, length, take, set, IfSome, Some, None, Option, sym, refl, ap, ◌∙◌, subst, arith}
+use Rattle.std.proofs.Common.{◌≡◌, ℕ, ◌+◌, ◌-◌, ◌<◌, ◌≤◌, List, [], ◌∷◌, ◌++◌, length, take, set, IfSome, Some, None, Option, sym, ap, ◌∙◌, subst, arith}
 use Rattle.std.proofs.lemmas.List.{take_more_set, take-take, length-take-le}
 use Rattle.memory.specs.Lists.{Lists, held}
 use Rattle.memory.specs.Fit.{MarkFits}
 use Rattle.job.specs.Outcome.{State, state, JobFits, Room}
-use Rattle.job.specs.Composites.{Given, listed, spanned, ComponentRoom, with_counts, with_composites, begun, added, closed, closed_at, cancelled, cancelled_at}
+use Rattle.job.specs.Composites.{Given, listed, spanned, with_counts, with_composites, begun, added, closed, closed_at, cancelled, cancelled_at}
 use Rattle.job.specs.declared.state.Job.{Job}
 use Rattle.memory.specs.declared.memory.Mark.{Mark}
 use Rattle.memory.specs.declared.records.Component.{Component}

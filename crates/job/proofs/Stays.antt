@@ -1,12 +1,12 @@
 -- A job that fits its memory still does after the calls.
-use Rattle.std.proofs.Common.{◌≡◌, ℕ, ◌+◌, ◌-◌, ◌<◌, ◌≤◌, List, [], ◌∷◌, ◌++◌, map, length, take, set, IfSome, Some, None, Option, sym, refl, ap, ◌∙◌, subst, arith}
-use Rattle.std.proofs.lemmas.List.{length-take-le, length-append, length_push, length-set, take_at, take-append-le}
+use Rattle.std.proofs.Common.{◌≡◌, ℕ, ◌-◌, ◌≤◌, List, [], ◌∷◌, ◌++◌, map, length, take, IfSome, Some, None, Option, sym, refl, ap, ◌∙◌, subst, arith}
+use Rattle.std.proofs.lemmas.List.{length-take-le, length-append, length_push, take_at, take-append-le}
 use Rattle.std.proofs.ByRecursion.{All-push, All-weaker, All-take}
-use Rattle.memory.specs.Lists.{Lists, held, part}
-use Rattle.memory.specs.Fit.{Sound, Counted, MarkFits, ComponentFits, AxesFit, Within, Known}
+use Rattle.memory.specs.Lists.{Lists, held}
+use Rattle.memory.specs.Fit.{Sound, MarkFits, ComponentFits, AxesFit, Within}
 use Rattle.keys.specs.Numbers.{AscendingNumbers}
-use Rattle.job.specs.Outcome.{State, state, JobFits, Room}
-use Rattle.job.specs.Composites.{Given, listed, spanned, stored, IdsKnown, with_counts, with_composites, begun, added, closed, closed_at, cancelled_at, BelowMark, Below}
+use Rattle.job.specs.Outcome.{State, state, JobFits}
+use Rattle.job.specs.Composites.{Given, listed, spanned, stored, IdsKnown, begun, added, closed, closed_at, cancelled_at, BelowMark, Below}
 use Rattle.job.specs.declared.state.Job.{Job}
 use Rattle.memory.specs.declared.memory.Mark.{Mark}
 use Rattle.memory.specs.declared.records.Component.{Component}

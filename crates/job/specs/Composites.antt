@@ -5,7 +5,7 @@ use Rattle.std.specs.List.{AllByRecursion as All}
 use Rattle.format.specs.declared.Transform.{Transform}
 use Rattle.keys.specs.Numbers.{AscendingNumbers}
 use Rattle.memory.specs.Fit.{Known, Within}
-use Rattle.memory.specs.Lists.{Lists, held}
+use Rattle.memory.specs.Lists.{Lists}
 use Rattle.memory.specs.declared.memory.Counts.{Counts}
 use Rattle.memory.specs.declared.memory.Mark.{Mark}
 use Rattle.memory.specs.declared.records.Component.{Component}

@@ -1,4 +1,6 @@
 // Keys: when two mean the same, where a key first came, and keys that ascend.
+#![tactic(auto)]
+
 pub mod bank;
 pub mod key;
 pub mod numbers;

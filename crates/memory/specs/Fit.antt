@@ -1,5 +1,5 @@
 -- When a job fits its memory.
-use Rattle.std.specs.Prelude.{◌≡◌, ℕ, ◌+◌, ◌<◌, ◌≤◌, ◌⊎◌, List, map, length, get_or, IfSome, Option}
+use Rattle.std.specs.Prelude.{◌≡◌, ℕ, ◌+◌, ◌<◌, ◌≤◌, ◌⊎◌, List, map, length, IfSome, Option}
 use Rattle.std.specs.List.{AllByRecursion as All}
 use Rattle.keys.specs.Numbers.{AscendingNumbers}
 use Rattle.memory.specs.Groups.{GroupsFit}

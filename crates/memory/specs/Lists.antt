@@ -1,5 +1,5 @@
 -- The nine lists of a job's memory, and the part of them that is filled.
-use Rattle.std.specs.Prelude.{ℕ, List, ◌++◌, length, take, drop, ℤ}
+use Rattle.std.specs.Prelude.{List, take, drop, ℤ}
 use Rattle.memory.specs.declared.records.Component.{Component}
 use Rattle.format.specs.declared.Coordinate.{Coordinate}
 use Rattle.memory.specs.declared.records.DeltaSet.{DeltaSet}

@@ -1,13 +1,11 @@
 -- Steps that show a token.
-use Rattle.std.proofs.Common.{◌≡◌, Some, None, Ok, Err, Option, Result, sym, refl, ap, ◌∙◌}
+use Rattle.std.proofs.Common.{◌≡◌, Some, None, Ok, Err, Result, sym, refl, ap, ◌∙◌}
 use Rattle.memory.specs.Lists.{Lists}
 use Rattle.memory.specs.declared.refusal.Refusal.{Refusal}
-use Rattle.job.specs.Composites.{AddsComponent}
 use Rattle.job.specs.Outcome.{State}
 use Rattle.job.specs.declared.state.Job.{Job}
 use Rattle.job.specs.declared.state.OpenComposite.{OpenComposite}
-use Rattle.run.specs.Steps.{shown, spent, OnOpenSteps}
-use Rattle.run.specs.declared.step.Answer.{Answer}
+use Rattle.run.specs.Steps.{shown, OnOpenSteps}
 use Rattle.run.specs.declared.step.Answer.TheVariants.{Refused}
 use Rattle.run.specs.declared.step.OnOpen.{OnOpen}
 use Rattle.run.specs.declared.step.OnOpen.TheVariants.{Component, Close, Cancel}

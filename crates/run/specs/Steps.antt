@@ -1,5 +1,5 @@
 -- What a step of a run answers and leaves, by what the call itself does.
-use Rattle.std.specs.Prelude.{◌≡◌, Some, None, Ok, Err, Option, Result, ◌≢◌}
+use Rattle.std.specs.Prelude.{◌≡◌, Some, None, Ok, Err, Result, ◌≢◌}
 use Rattle.memory.specs.Lists.{Lists}
 use Rattle.memory.specs.declared.refusal.Refusal.{Refusal}
 use Rattle.job.specs.Composites.{given, AddsComponent, Closes, Cancels}
@@ -8,7 +8,7 @@ use Rattle.job.specs.declared.state.Job.{Job}
 use Rattle.job.specs.declared.state.Kept.{Kept}
 use Rattle.job.specs.declared.state.OpenComposite.{OpenComposite}
 use Rattle.run.specs.declared.step.Answer.{Answer}
-use Rattle.run.specs.declared.step.Answer.TheVariants.{Id, Done, Refused}
+use Rattle.run.specs.declared.step.Answer.TheVariants.{Done, Refused}
 use Rattle.run.specs.declared.step.OnOpen.{OnOpen}
 use Rattle.run.specs.declared.step.OnOpen.TheVariants.{Component, Close, Cancel}
 use Rattle.run.specs.declared.step.Step.{Step}

@@ -4,7 +4,6 @@
 #[cfg(test)]
 mod tests {
     use format::Coordinate;
-    use keys::numbers::Key;
     use keys::{AscendingRun, Numbered, Numbers, Placed, find, numbers_ascend, place_of};
     use sink::{Buffer, ByteCounter, Checksum, Full, Sink};
     use std::process::Abort;
@@ -99,7 +98,7 @@ mod tests {
         assert_eq!(rt; buffer.count(), 4);
         assert!(rt; write_into(&0x0506u16, &mut buffer).is_ok());
         assert!(rt; buffer.put(7).is_err());
-        assert_eq!(rt; buffer.written(), &[1, 2, 3, 4, 5, 6]);
+        assert_eq!(rt; buffer.written(), [1, 2, 3, 4, 5, 6].as_slice());
         assert_eq!(rt; Full.number(), 14);
     }
 

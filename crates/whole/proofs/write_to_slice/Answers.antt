@@ -1,4 +1,4 @@
-use Rattle.std.proofs.Common.{◌≡◌, ◌<◌, [], length, take, sym, ap, ◌∙◌, arith, rules}
+use Rattle.std.proofs.Common.{◌≡◌, ◌<◌, [], length, take, ap, ◌∙◌, arith, rules}
 use Rattle.sink.specs.Kinds.{held}
 use Rattle.sink.proofs.Feeding.{held_front}
 use Rattle.whole.proofs.write_to_slice.Goals as goal

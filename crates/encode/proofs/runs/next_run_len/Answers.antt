@@ -1,4 +1,4 @@
-use Rattle.std.proofs.Common.{◌-◌, sym, arith}
+use Rattle.std.proofs.Common.{sym, arith}
 use Rattle.encode.proofs.Choosing.{goes_next, goes_stop, goes_past, goes_none, run_is, run_none}
 use Rattle.encode.proofs.runs.next_run_len.Goals as goal
 

@@ -1,4 +1,4 @@
-use Rattle.std.proofs.Common.{◌≡◌, sym, ap, ◌∙◌, arith}
+use Rattle.std.proofs.Common.{◌≡◌, ap, ◌∙◌, arith}
 use Rattle.run.proofs.Shown.{still_shown}
 use Rattle.run.proofs.step.unopened.Goals as goal
 use Rattle.run.proofs.step.unopened.Goals.{then-number-eq0, else-number-eq0}

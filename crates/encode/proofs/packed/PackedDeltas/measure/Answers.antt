@@ -1,4 +1,4 @@
-use Rattle.std.proofs.Common.{◌-◌, length, Some, None, ap, ◌∙◌, subst, arith}
+use Rattle.std.proofs.Common.{length, Some, None, ap, ◌∙◌, subst, arith}
 use Rattle.std.proofs.lemmas.List.{at_drop_all}
 use Rattle.format.specs.Packed.{pack, packed}
 use Rattle.encode.specs.Runs.{Steps}
