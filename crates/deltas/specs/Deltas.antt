@@ -1,6 +1,6 @@
 -- What adding a delta set does, over what a job holds.
 use Rattle.std.specs.Prelude.{ℕ, ◌+◌, ◌≤◌, Bool, true, false, cond, not, ◌&&◌, List, [], ◌∷◌, ◌++◌, map, length, take, drop, ℤ, pos, is_some, filter, refl}
-use Rattle.std.specs.List.{flat_map, AllByRecursion as All}
+use Rattle.std.specs.List.{flat_map, AllByRecursion}
 use Rattle.format.specs.declared.Coordinate.{Coordinate}
 use Rattle.keys.specs.Numbers.{AscendingNumbers}
 use Rattle.keys.specs.Places.{number, place, placed, with_key, grown}
@@ -158,4 +158,4 @@ with_added h a =
 -- No 65,536th region, and no 65,536th axis of a region, arises.
 pub record RegionLimits (h : Lists) (d : Handed) : Type 0 where
   pub regions : length h.regions + length (new_regions h d) ≤ 65535
-  pub axes : All (λ r. length r ≤ 65535) (new_regions h d)
+  pub axes : AllByRecursion (λ r. length r ≤ 65535) (new_regions h d)

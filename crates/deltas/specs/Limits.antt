@@ -1,6 +1,6 @@
 -- Whether what a delta set adds stays within the limits.
 use Rattle.std.specs.Prelude.{◌+◌, ◌≤◌, length}
-use Rattle.std.specs.List.{AllByRecursion as All}
+use Rattle.std.specs.List.{AllByRecursion}
 use Rattle.memory.specs.Groups.{GroupsFit}
 use Rattle.memory.specs.Lists.{Lists}
 use Rattle.memory.specs.declared.memory.Counts.{Counts}
@@ -9,7 +9,7 @@ use Rattle.deltas.specs.Deltas.{Handed, Added, added, with_added, new_regions}
 -- No 65,536th region, axis of a region, group, or set of a group arises.
 pub record DeltaLimits (h : Lists) (d : Handed) : Type 0 where
   pub regions : length h.regions + length (new_regions h d) ≤ 65535
-  pub axes : All (λ r. length r ≤ 65535) (new_regions h d)
+  pub axes : AllByRecursion (λ r. length r ≤ 65535) (new_regions h d)
   pub groups : GroupsFit (with_added h (added h d)).entries (with_added h (added h d)).sets
 
 -- The counts with what is added.

@@ -1,6 +1,6 @@
 -- How the parts of a delta set lie on the coordinates and the values that are handed in.
 use Rattle.std.specs.Prelude.{◌≡◌, ℕ, ◌+◌, List, [], ◌∷◌, map, take, drop}
-use Rattle.std.specs.List.{AllByRecursion as All}
+use Rattle.std.specs.List.{AllByRecursion}
 use Rattle.format.specs.declared.Coordinate.{Coordinate}
 use Rattle.keys.specs.Numbers.{AscendingNumbers}
 use Rattle.deltas.specs.declared.parts.Part.{Part}
@@ -27,7 +27,7 @@ tuple_len (p ∷ ps) = p.values
 
 -- All parts have as many values.
 abbrev pub Level : List Part → Type 0
-Level ps = All (λ p. p.values ≡ tuple_len ps) ps
+Level ps = AllByRecursion (λ p. p.values ≡ tuple_len ps) ps
 
 -- The coordinates of each part: they lie one part after the other.
 abbrev pub cuts : List Part → List Coordinate → List (List Coordinate)

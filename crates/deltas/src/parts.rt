@@ -1,6 +1,6 @@
 // The parts of a delta set that is handed in, and how they lie on its coordinates and values.
 ghost use Rattle.std.specs.Prelude.{◌≡◌, length, Decides};
-ghost use Rattle.std.specs.List.{AllByRecursion as All};
+ghost use Rattle.std.specs.List.{AllByRecursion};
 ghost use Rattle.deltas.specs.Parts.{AddUp, Level, Ascends, axes_total, tuple_len as first_len, cuts};
 
 use format::Coordinate;
@@ -70,7 +70,7 @@ pub fn level(parts: &[Part]) -> bool
 // Whether the axis numbers of each part strictly ascend.
 pub fn parts_ascend(parts: &[Part], coordinates: &[Coordinate]) -> bool
     requires { axes_total parts.now ≡ length coordinates.now }
-    ensures { Decides result (All Ascends (cuts parts.now coordinates.now)) }
+    ensures { Decides result (AllByRecursion Ascends (cuts parts.now coordinates.now)) }
 {
     let mut rest = coordinates;
     for p in parts {

@@ -2,7 +2,7 @@
 use Rattle.std.proofs.Common.{◌≡◌, ℕ, zero, suc, ◌+◌, ◌*◌, ◌/◌, ◌^◌, ◌<◌, Bool, true, false, cond, List, [], ◌∷◌, ◌++◌, map, length, get_or, ℤ, is_some, Option, refl, ap, ◌∙◌, append_assoc, arith, w16}
 use native.Mathlib.Nat.{pow-succ'}
 use Rattle.std.proofs.lemmas.Bool.{ltb-false, eq-eqb, ne_eqb}
-use Rattle.std.specs.List.{AllByRecursion as All, flat_map}
+use Rattle.std.specs.List.{AllByRecursion, flat_map}
 use Rattle.format.specs.Fits.{Held, Fits16, AxesFit}
 use Rattle.format.specs.Laws.{ComponentsReadBack}
 use Rattle.write.specs.Bytes.{be, signed16}
@@ -42,7 +42,7 @@ axes_read : (axis-list : ℕ → Read (List ℤ)) (end : ℕ) (a : ℕ × List �
 axes_read axis-list end a f rest =
     rw (append_assoc (number a.0) (packed a.1) rest, (numbers a.0 f.number_fits end _).shortest, f.listed, f.same_length, (packs a.1 f.values_fit end).1 rest)
 
-present_read : (end : ℕ) (xs : List (Option ℤ)) → All (Held Fits16) xs → (rest : List ℕ) → read_present end (map is_some xs) (flat_map (present signed16) xs ++ rest) ≡ got xs rest
+present_read : (end : ℕ) (xs : List (Option ℤ)) → AllByRecursion (Held Fits16) xs → (rest : List ℕ) → read_present end (map is_some xs) (flat_map (present signed16) xs ++ rest) ≡ got xs rest
 present_read end [] h rest = refl
 present_read end (x ∷ xs) h rest =
     rw (

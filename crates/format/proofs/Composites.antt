@@ -3,7 +3,7 @@ use Rattle.std.proofs.Common.{◌≡◌, ℕ, zero, suc, ◌+◌, ◌-◌, ◌^�
 use Rattle.std.proofs.lemmas.List.{get_or-map, length-map}
 use Rattle.std.proofs.ByRecursion.{All-get_or, All-map, All-weaker}
 use Rattle.std.proofs.lemmas.Bool.{ne_eqb}
-use Rattle.std.specs.List.{flat_map, AllByRecursion as All}
+use Rattle.std.specs.List.{flat_map, AllByRecursion}
 use Rattle.format.specs.declared.Layer.TheVariants.{Record, Index}
 use Rattle.format.specs.Reads.{Read, got, bad, fault, outcome}
 use Rattle.format.specs.Packed.{packed}
@@ -30,14 +30,14 @@ module _ (look : ℕ → Read (List ℤ)) (end : ℕ) (c : Component) (rest : Li
   at_suc j [] e = cc
   at_suc j (b ∷ bs) e = rw e
 
-component_reads : (look : ℕ → Read (List ℤ)) (end : ℕ) (cs : List Component) → All (ComponentFits (AxesFit look)) cs → (j : ℕ) (d : Component) → j < length cs →
+component_reads : (look : ℕ → Read (List ℤ)) (end : ℕ) (cs : List Component) → AllByRecursion (ComponentFits (AxesFit look)) cs → (j : ℕ) (d : Component) → j < length cs →
     component_at look end j (flat_map component cs) ≡ got (get_or cs j d) (flat_map component (drop (suc j) cs))
 component_reads look end [] h j d lt = absurd (omega arith)
 component_reads look end (c ∷ cs) h zero d lt = at_zero look end c (flat_map component cs) _ (components look c h.0 end (flat_map component cs))
 component_reads look end (c ∷ cs) h (suc j) d lt =
     at_suc look end c (flat_map component cs) j _ (components look c h.0 end (flat_map component cs)) ∙ component_reads look end cs h.1 j d (omega arith)
 
-component_none : (look : ℕ → Read (List ℤ)) (end : ℕ) (cs : List Component) → All (ComponentFits (AxesFit look)) cs → (j : ℕ) → length cs ≤ j →
+component_none : (look : ℕ → Read (List ℤ)) (end : ℕ) (cs : List Component) → AllByRecursion (ComponentFits (AxesFit look)) cs → (j : ℕ) → length cs ≤ j →
     component_at look end j (flat_map component cs) ≡ bad 24 end Record
 component_none look end [] h zero le = refl
 component_none look end [] h (suc j) le = refl
@@ -52,13 +52,13 @@ mapped_item f xs end n d after h lt =
     (items_read (map f xs) h end after n).0 (rw (length-map xs f) lt) ∙ ap (λ (x : List ℕ). got x (concat (drop (suc n) (map f xs)) ++ after)) (get_or-map f xs n d [] lt)
 
 axis_list_reads : (bs : List ℕ) (r : Root) (lists : List (List ℕ)) (after : List ℕ) → 0 < r.axis_lists → drop r.axis_lists bs ≡ index (map (λ axes. packed (map pos axes)) lists) ++ after →
-    length (index (map (λ axes. packed (map pos axes)) lists)) < 2 ^ 32 → All (All (λ a. a < 2 ^ 16)) lists → (n : ℕ) → n < length lists →
+    length (index (map (λ axes. packed (map pos axes)) lists)) < 2 ^ 32 → AllByRecursion (AllByRecursion (λ a. a < 2 ^ 16)) lists → (n : ℕ) → n < length lists →
     axis_list_in bs r n ≡ got (map pos (get_or lists n [])) []
 unfolding axis_list_in
 axis_list_reads bs r lists after p e h fits n lt =
     rw (ne_eqb r.axis_lists 0 (omega arith), e, mapped_item (λ axes. packed (map pos axes)) lists (length bs) n [] after h lt)
     (packs (map pos (get_or lists n []))
-    (All-map Fits32 pos (get_or lists n []) (All-weaker (λ a. a < 2 ^ 16) (λ a. a < 2 ^ 31) (λ a l. omega arith) (get_or lists n []) (All-get_or (All (λ a. a < 2 ^ 16)) lists n [] lt fits)))
+    (All-map Fits32 pos (get_or lists n []) (All-weaker (λ a. a < 2 ^ 16) (λ a. a < 2 ^ 31) (λ a l. omega arith) (get_or lists n []) (All-get_or (AllByRecursion (λ a. a < 2 ^ 16)) lists n [] lt fits)))
     _).0
 
 axis_list_none : (bs : List ℕ) (r : Root) (lists : List (List ℕ)) (after : List ℕ) → 0 < r.axis_lists → drop r.axis_lists bs ≡ index (map (λ axes. packed (map pos axes)) lists) ++ after →
@@ -140,10 +140,10 @@ module _ (k : Content) (coverage conditions : List ℕ) (sound : Sound k) (short
     transform_fits = f.transform_fits;
   }
 
-  composite_fits : (i : ℕ) → i < length k.composites → All (ComponentFits (AxesFit (axis_list_in bs r))) (get_or k.composites i [])
+  composite_fits : (i : ℕ) → i < length k.composites → AllByRecursion (ComponentFits (AxesFit (axis_list_in bs r))) (get_or k.composites i [])
   composite_fits i lt =
       All-weaker (ComponentFits (AxesListed k.axis_lists)) (ComponentFits (AxesFit (axis_list_in bs r))) component_fits (get_or k.composites i [])
-      (All-get_or (All (ComponentFits (AxesListed k.axis_lists))) k.composites i [] lt sound.composites_fit)
+      (All-get_or (AllByRecursion (ComponentFits (AxesListed k.axis_lists))) k.composites i [] lt sound.composites_fit)
 
   abbrev items : List (List ℕ)
   items = map (flat_map component) k.composites

@@ -2,7 +2,7 @@
 use Rattle.std.proofs.Common.{◌≡◌, ℕ, zero, suc, ◌+◌, ◌-◌, ◌*◌, ◌/◌, ◌%◌, ◌^◌, ◌<◌, List, [], ◌∷◌, ◌++◌, length, ℤ, is_some, Some, None, Option, refl, ap, ◌∙◌, append_assoc, mod-eq_of_lt, arith, SFits, to_z, of_z}
 use native.Mathlib.Nat.{pow-succ'}
 use lib.Arith.{mod-mul}
-use Rattle.std.specs.List.{flat_map, AllByRecursion as All}
+use Rattle.std.specs.List.{flat_map, AllByRecursion}
 use Rattle.write.specs.Bytes.{be}
 use Rattle.format.specs.declared.Layer.{Layer}
 use Rattle.format.specs.Reads.{Read, got, then, more, fixed, many, optional}
@@ -36,7 +36,7 @@ length-be (suc k) n = ap suc (length-be k n)
 
 -- what is written one after the other reads back, where each part does
 pub many_read : {X : Type 0} (P : X → Type 0) (write : X → List ℕ) (read : List ℕ → Read X) → ((x : X) → P x → (rest : List ℕ) → read (write x ++ rest) ≡ got x rest) →
-    (xs : List X) → All P xs → (rest : List ℕ) → many read (length xs) (flat_map write xs ++ rest) ≡ got xs rest
+    (xs : List X) → AllByRecursion P xs → (rest : List ℕ) → many read (length xs) (flat_map write xs ++ rest) ≡ got xs rest
 many_read P write read one [] h rest = refl
 many_read P write read one (x ∷ xs) h rest =
     rw (append_assoc (write x) (flat_map write xs) rest, one x h.0 (flat_map write xs ++ rest), many_read P write read one xs h.1 rest)

@@ -3,7 +3,7 @@ use Rattle.std.proofs.Common.{◌≡◌, ℕ, zero, suc, ◌+◌, ◌-◌, ◌/�
 use lib.Signed.{mag}
 use Rattle.std.proofs.lemmas.Bool.{true≢false, ltb-true, le-ltb}
 use Rattle.std.proofs.ByRecursion.{All-drop}
-use Rattle.std.specs.List.{flat_map, AllByRecursion as All}
+use Rattle.std.specs.List.{flat_map, AllByRecursion}
 use Rattle.format.specs.declared.Layer.TheVariants.{Values}
 use Rattle.format.specs.Reads.{got}
 use Rattle.format.specs.declared.Width.{Width}
@@ -54,12 +54,12 @@ goes_le w (suc m) (v ∷ vs) =
       | false ↦ omega arith
     ]
 
-goes_holds : (w : Width) (m : ℕ) (vs : List ℤ) → All Fits32 vs → All (Holds w) (take (goes_on w m vs) vs)
+goes_holds : (w : Width) (m : ℕ) (vs : List ℤ) → AllByRecursion Fits32 vs → AllByRecursion (Holds w) (take (goes_on w m vs) vs)
 goes_holds w zero vs h = tt
 goes_holds w (suc m) [] h = tt
 goes_holds w (suc m) (v ∷ vs) h = at (stops w (wide v) vs) refl (goes_holds w m vs h.1)
   where
-    at : (b : Bool) → stops w (wide v) vs ≡ b → All (Holds w) (take (goes_on w m vs) vs) → All (Holds w) (take (cond b 0 (suc (goes_on w m vs))) (v ∷ vs))
+    at : (b : Bool) → stops w (wide v) vs ≡ b → AllByRecursion (Holds w) (take (goes_on w m vs) vs) → AllByRecursion (Holds w) (take (cond b 0 (suc (goes_on w m vs))) (v ∷ vs))
     at true e ih = tt
     at false e ih = (widens w (wide v) v vs (own_holds v h.0) e, ih)
 
@@ -81,7 +81,7 @@ len_control One m h = omega arith
 len_control Two m h = omega arith
 len_control Four m h = omega arith
 
-run_reads : (end : ℕ) (w : Width) (m : ℕ) (xs : List ℤ) → m < 64 → length xs ≡ suc m → All (Holds w) xs → (rest : List ℕ) → read_run end (control w m ∷ (flat_map (bytes w) xs ++ rest)) ≡ got xs rest
+run_reads : (end : ℕ) (w : Width) (m : ℕ) (xs : List ℤ) → m < 64 → length xs ≡ suc m → AllByRecursion (Holds w) xs → (rest : List ℕ) → read_run end (control w m ∷ (flat_map (bytes w) xs ++ rest)) ≡ got xs rest
 run_reads end w m xs h e hs rest =
     rw (kind-control w m h, len_control w m h ∙ sym e, many_read (Holds w) (bytes w) (read_value end w) (value_reads end w) xs hs rest)
 
@@ -102,14 +102,14 @@ packed_first v vs =
 pub length_run : (w : Width) (vs : List ℤ) → length (take (goes_on w 63 vs) vs) ≡ goes_on w 63 vs
 length_run w vs = let le = goes_le w 63 vs in simp length-take (omega arith)
 
-first_run : (end : ℕ) (v : ℤ) (vs : List ℤ) → All Fits32 (v ∷ vs) → (after : List ℕ) → read_run end (packed (v ∷ vs) ++ after) ≡ got (v ∷ take (goes_on (wide v) 63 vs) vs) (packed (drop (goes_on (wide v) 63 vs) vs) ++ after)
+first_run : (end : ℕ) (v : ℤ) (vs : List ℤ) → AllByRecursion Fits32 (v ∷ vs) → (after : List ℕ) → read_run end (packed (v ∷ vs) ++ after) ≡ got (v ∷ take (goes_on (wide v) 63 vs) vs) (packed (drop (goes_on (wide v) 63 vs) vs) ++ after)
 first_run end v vs h after =
     let le = goes_le (wide v) 63 vs in
     rw (packed_first v vs, append_assoc)
     (run_reads end (wide v) (goes_on (wide v) 63 vs) (v ∷ take (goes_on (wide v) 63 vs) vs) (omega arith) (ap suc (length_run (wide v) vs))
     (own_holds v h.0, goes_holds (wide v) 63 vs h.1) _)
 
-due_read : (end fuel : ℕ) (vs : List ℤ) → All Fits32 vs → length vs ≤ fuel → (after : List ℕ) → unpack_due end fuel (length vs) (packed vs ++ after) ≡ got vs after
+due_read : (end fuel : ℕ) (vs : List ℤ) → AllByRecursion Fits32 vs → length vs ≤ fuel → (after : List ℕ) → unpack_due end fuel (length vs) (packed vs ++ after) ≡ got vs after
 unfolding unpack_due pack
 due_read end zero [] h le after = refl
 due_read end (suc fuel) [] h le after = refl
@@ -122,13 +122,13 @@ due_read end (suc fuel) (v ∷ vs) h le after =
     let short : ltb (suc (length vs)) (suc (length (take m vs))) ≡ false = le-ltb (suc (length vs)) (suc (length (take m vs))) (omega arith) in
     rw (first_run end v vs h after, short, left, due_read end fuel (drop m vs) (All-drop Fits32 m vs h.1) (simp length-drop (omega arith)) after, take-append-drop)
 
-first_alone : (end : ℕ) (v : ℤ) (vs : List ℤ) → All Fits32 (v ∷ vs) → read_run end (packed (v ∷ vs)) ≡ got (v ∷ take (goes_on (wide v) 63 vs) vs) (packed (drop (goes_on (wide v) 63 vs) vs))
+first_alone : (end : ℕ) (v : ℤ) (vs : List ℤ) → AllByRecursion Fits32 (v ∷ vs) → read_run end (packed (v ∷ vs)) ≡ got (v ∷ take (goes_on (wide v) 63 vs) vs) (packed (drop (goes_on (wide v) 63 vs) vs))
 first_alone end v vs h = simp append-nil at (first_run end v vs h [])
 
 rest_less : (v : ℤ) (vs : List ℤ) → length (packed (drop (goes_on (wide v) 63 vs) vs)) < length (packed (v ∷ vs))
 rest_less v vs = omega (arith, simp length-append at (ap length (packed_first v vs)))
 
-all_read : (end fuel : ℕ) (vs : List ℤ) → All Fits32 vs → length (packed vs) ≤ fuel → unpack_all end fuel (packed vs) ≡ got vs []
+all_read : (end fuel : ℕ) (vs : List ℤ) → AllByRecursion Fits32 vs → length (packed vs) ≤ fuel → unpack_all end fuel (packed vs) ≡ got vs []
 unfolding unpack_all pack
 all_read end fuel [] h le = refl
 all_read end zero (v ∷ vs) h le = absurd (omega arith)

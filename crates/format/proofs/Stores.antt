@@ -4,7 +4,7 @@ use native.Mathlib.Nat.{mul-mod_right, mul-div_right}
 use Rattle.std.proofs.lemmas.List.{get_or-map, length-map, drop_at, take_at, drop-drop}
 use Rattle.std.proofs.ByRecursion.{All-get_or, All-append}
 use Rattle.std.proofs.lemmas.Bool.{ne_eqb, eq-eqb, lt-leb, le-leb}
-use Rattle.std.specs.List.{flat_map, AllByRecursion as All}
+use Rattle.std.specs.List.{flat_map, AllByRecursion}
 use Rattle.format.specs.declared.Coordinate.{Coordinate}
 use Rattle.write.specs.Bytes.{be, signed16}
 use Rattle.format.specs.declared.Layer.TheVariants.{Store, Index}
@@ -21,15 +21,15 @@ use Rattle.format.proofs.Composites.{mapped_item}
 
 -- ---- the tuples of a packing
 
-concat_all : {X : Type 0} (P : X → Type 0) (size : ℕ) (ts : List (List X)) → All (λ t. (length t ≡ size) × All P t) ts → All P (concat ts)
+concat_all : {X : Type 0} (P : X → Type 0) (size : ℕ) (ts : List (List X)) → AllByRecursion (λ t. (length t ≡ size) × AllByRecursion P t) ts → AllByRecursion P (concat ts)
 concat_all P size [] h = tt
 concat_all P size (t ∷ ts) h = All-append P t (concat ts) h.0.1 (concat_all P size ts h.1)
 
-concat-length : {X : Type 0} (P : X → Type 0) (size : ℕ) (ts : List (List X)) → All (λ t. (length t ≡ size) × All P t) ts → length (concat ts) ≡ length ts * size
+concat-length : {X : Type 0} (P : X → Type 0) (size : ℕ) (ts : List (List X)) → AllByRecursion (λ t. (length t ≡ size) × AllByRecursion P t) ts → length (concat ts) ≡ length ts * size
 concat-length P size [] h = omega arith
 concat-length P size (t ∷ ts) h = omega (arith, length-append t (concat ts), h.0.0, concat-length P size ts h.1)
 
-by_region_is : (P : ℤ → Type 0) (size : ℕ) (rs : List ℕ) (ts : List (List ℤ)) → length ts ≡ length rs → All (λ t. (length t ≡ size) × All P t) ts → by_region size rs (concat ts) ≡ paired rs ts
+by_region_is : (P : ℤ → Type 0) (size : ℕ) (rs : List ℕ) (ts : List (List ℤ)) → length ts ≡ length rs → AllByRecursion (λ t. (length t ≡ size) × AllByRecursion P t) ts → by_region size rs (concat ts) ≡ paired rs ts
 by_region_is P size [] ts e h = refl
 by_region_is P size (r ∷ rs) [] e h = absurd (omega arith)
 by_region_is P size (r ∷ rs) (t ∷ ts) e h =
@@ -226,12 +226,12 @@ region_none regions after bs is few short end i le =
     region_lacks (map region regions) after bs is (omega arith) short end i (omega arith)
 
 pub region_reads : (regions : List (List Coordinate)) (after bs : List ℕ) → bs ≡ region_list regions ++ after → length regions < 2 ^ 16 → length bs < 2 ^ 32 →
-    All (λ cs. (length cs < 2 ^ 16) × All CoordinateFits cs) regions → (end i : ℕ) → i < length regions →
+    AllByRecursion (λ cs. (length cs < 2 ^ 16) × AllByRecursion CoordinateFits cs) regions → (end i : ℕ) → i < length regions →
     region_in end i bs ≡ got (get_or regions i []) (concat (drop (suc i) (map region regions)) ++ after)
 unfolding region_list
 region_reads regions after bs is few short fits end i lt =
     let n : length (map region regions) ≡ length regions = length-map regions region in
     let it : get_or (map region regions) i [] ≡ region (get_or regions i []) = get_or-map region regions i [] [] lt in
-    let f = All-get_or (λ cs. (length cs < 2 ^ 16) × All CoordinateFits cs) regions i [] lt fits in
+    let f = All-get_or (λ cs. (length cs < 2 ^ 16) × AllByRecursion CoordinateFits cs) regions i [] lt fits in
     region_found (map region regions) after bs is (omega arith) short end i (omega arith) (rw it (region-bytes (get_or regions i []))) ∙
     rw (it, region_is, fixed_reads Store end 2 (length (get_or regions i [])) f.0 _) (many_read CoordinateFits coordinate (read_coordinate end) (coordinate_reads end) (get_or regions i []) f.1 _)

@@ -1,7 +1,7 @@
 -- Which components and contents can be written: their counts and numbers fit their fields.
 use Rattle.std.specs.Prelude.{◌≡◌, ℕ, ◌^◌, ◌<◌, List, [], length, ℤ, Some, None, Option, slice_index_or}
 use Rattle.std.specs.Int.Signed.{mag}
-use Rattle.std.specs.List.{AllByRecursion as All}
+use Rattle.std.specs.List.{AllByRecursion}
 use Rattle.format.specs.declared.Coordinate.{Coordinate}
 use Rattle.format.specs.Reads.{Read, got}
 use Rattle.format.specs.Component.{Component, nine}
@@ -24,7 +24,7 @@ Held P (Some x) = P x
 -- axis values fit the axis list of their number, as it is looked up
 pub record AxesFit (axis-list : ℕ → Read (List ℤ)) (a : ℕ × List ℤ) : Type 0 where
   pub number_fits : a.0 < 2 ^ 32
-  pub values_fit : All Fits32 a.1
+  pub values_fit : AllByRecursion Fits32 a.1
   pub axes : List ℤ
   pub rest : List ℕ
   pub listed : axis-list a.0 ≡ got axes rest
@@ -37,26 +37,26 @@ pub record ComponentFits (Axes : ℕ × List ℤ → Type 0) (c : Component) : T
   pub axes_fit : Held Axes c.axes
   pub axes_slot_fits : Held (λ n. n < 2 ^ 32) c.axes_slot
   pub transform_slot_fits : Held (λ n. n < 2 ^ 32) c.transform_slot
-  pub transform_fits : All (Held Fits16) (nine c.transform)
+  pub transform_fits : AllByRecursion (Held Fits16) (nine c.transform)
 
 -- axis values fit the axis list of their number, which the content has
 pub record AxesListed (lists : List (List ℕ)) (a : ℕ × List ℤ) : Type 0 where
   pub listed : a.0 < length lists
-  pub values_fit : All Fits32 a.1
+  pub values_fit : AllByRecursion Fits32 a.1
   pub same_length : length (slice_index_or lists a.0 []) ≡ length a.1
 
 -- a delta set has a tuple for each region, all of one length
 pub record SetFits (regions : ℕ) (tuples : List (List ℤ)) : Type 0 where
   pub each_region : length tuples ≡ regions
   pub size : ℕ
-  pub same_size : All (λ t. (length t ≡ size) × All Fits32 t) tuples
+  pub same_size : AllByRecursion (λ t. (length t ≡ size) × AllByRecursion Fits32 t) tuples
 
 -- at most 65,535 regions and delta sets
 pub record SubtableFits (g : Subtable) : Type 0 where
   pub few_regions : length g.over < 2 ^ 16
-  pub regions_fit : All (λ r. r < 2 ^ 16) g.over
+  pub regions_fit : AllByRecursion (λ r. r < 2 ^ 16) g.over
   pub few_sets : length g.sets < 2 ^ 16
-  pub sets_fit : All (SetFits (length g.over)) g.sets
+  pub sets_fit : AllByRecursion (SetFits (length g.over)) g.sets
 
 -- an axis number of 16 bits, and three signed numbers of 16 bits
 pub record CoordinateFits (c : Coordinate) : Type 0 where
@@ -68,8 +68,8 @@ pub record CoordinateFits (c : Coordinate) : Type 0 where
 -- the content's counts and numbers fit their fields
 pub record Sound (k : Content) : Type 0 where
   pub few_regions : length k.regions < 2 ^ 16
-  pub regions_fit : All (λ cs. (length cs < 2 ^ 16) × All CoordinateFits cs) k.regions
+  pub regions_fit : AllByRecursion (λ cs. (length cs < 2 ^ 16) × AllByRecursion CoordinateFits cs) k.regions
   pub few_subtables : length k.subtables < 2 ^ 16
-  pub subtables_fit : All SubtableFits k.subtables
-  pub axes_fit : All (All (λ a. a < 2 ^ 16)) k.axis_lists
-  pub composites_fit : All (All (ComponentFits (AxesListed k.axis_lists))) k.composites
+  pub subtables_fit : AllByRecursion SubtableFits k.subtables
+  pub axes_fit : AllByRecursion (AllByRecursion (λ a. a < 2 ^ 16)) k.axis_lists
+  pub composites_fit : AllByRecursion (AllByRecursion (ComponentFits (AxesListed k.axis_lists))) k.composites

@@ -1,6 +1,6 @@
 -- The laws: what is written reads back.
 use Rattle.std.specs.Prelude.{◌≡◌, ℕ, suc, ◌+◌, ◌*◌, ◌^◌, ◌<◌, ◌≤◌, List, [], ◌∷◌, ◌++◌, map, length, get_or, drop, ℤ, pos, Ok, Err, slice_index, slice_index_or}
-use Rattle.std.specs.List.{flat_map, AllByRecursion as All}
+use Rattle.std.specs.List.{flat_map, AllByRecursion}
 use Rattle.write.specs.Bytes.{be}
 use Rattle.format.specs.declared.Layer.TheVariants.{Table, Store, Index, Record}
 use Rattle.format.specs.Reads.{Read, got, bad, between, fault, outcome}
@@ -32,7 +32,7 @@ NumbersReadBack = (n : ℕ) → n < 2 ^ 32 → (end : ℕ) (after : List ℕ) �
 -- values read back to the end of their bytes; and, whatever follows them, where their count is due
 abbrev pub PackedReadsBack : Type 0
 PackedReadsBack =
-    (vs : List ℤ) → All Fits32 vs → (end : ℕ) →
+    (vs : List ℤ) → AllByRecursion Fits32 vs → (end : ℕ) →
     (unpacked end (packed vs) ≡ got vs []) × ((after : List ℕ) → unpacked_due end (length vs) (packed vs ++ after) ≡ got vs after)
 
 -- ---- INDEX

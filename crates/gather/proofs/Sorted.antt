@@ -1,14 +1,14 @@
 -- Numbers that strictly ascend, and what is kept of them.
 use Rattle.std.proofs.Common.{ℕ, zero, suc, ◌+◌, ◌<◌, Bool, true, false, cond, List, [], ◌∷◌, map, length, get_or, filter, arith}
 use native.Mathlib.Numerals.{unary_clauses}
-use Rattle.std.specs.List.{AllByRecursion as All}
+use Rattle.std.specs.List.{AllByRecursion}
 use Rattle.std.proofs.ByRecursion.{All-weaker, All-get_or}
 use Rattle.keys.specs.Numbers.{AscendingNumbers}
 
 -- each number lies below all that follow
 abbrev pub Sorted : List ℕ → Type 0
 Sorted [] = Unit {0}
-Sorted (n ∷ ns) = All (λ m. n < m) ns × Sorted ns
+Sorted (n ∷ ns) = AllByRecursion (λ m. n < m) ns × Sorted ns
 
 later : (n : ℕ) (ns : List ℕ) → AscendingNumbers (n ∷ ns) → AscendingNumbers ns
 later n ns h = record { next = λ i l. simp unary_clauses (simp unary_clauses at (h.next (suc i) (omega arith))) }
@@ -34,10 +34,10 @@ either P true x y h k = h
 either P false x y h k = k
 
 module _ {X : Type 0} (number : X → ℕ) (p : X → Bool) where
-  pub all_kept : (P : ℕ → Type 0) (xs : List X) → All P (map number xs) → All P (map number (filter p xs))
+  pub all_kept : (P : ℕ → Type 0) (xs : List X) → AllByRecursion P (map number xs) → AllByRecursion P (map number (filter p xs))
   all_kept P [] h = tt
   all_kept P (x ∷ xs) h =
-      either (λ ys. All P (map number ys)) (p x) (x ∷ filter p xs) (filter p xs) (h.0, all_kept P xs h.1) (all_kept P xs h.1)
+      either (λ ys. AllByRecursion P (map number ys)) (p x) (x ∷ filter p xs) (filter p xs) (h.0, all_kept P xs h.1) (all_kept P xs h.1)
 
   sorted_kept : (xs : List X) → Sorted (map number xs) → Sorted (map number (filter p xs))
   sorted_kept [] h = tt

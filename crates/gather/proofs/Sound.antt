@@ -2,7 +2,7 @@
 use Rattle.std.proofs.Common.{◌≡◌, ℕ, suc, ◌+◌, ◌<◌, ◌≤◌, Bool, true, false, cond, not, List, [], ◌∷◌, ◌++◌, map, length, drop, ℤ, IfSome, Some, None, Option, sym, refl, ap, ◌∙◌, subst, inl, inr, ⊎_elim, arith}
 use Rattle.std.proofs.ByRecursion.{All-append, All-weaker, all_kept_by}
 use Rattle.std.proofs.lemmas.List.{append_assoc, length-append, length-take-le, length-drop}
-use Rattle.std.specs.List.{flat_map, AllByRecursion as All}
+use Rattle.std.specs.List.{flat_map, AllByRecursion}
 use Rattle.format.specs.declared.Coordinate.{Coordinate}
 use Rattle.keys.specs.Numbers.{AscendingNumbers}
 use Rattle.memory.specs.Fit.{Sound, RegionFits, EntryFits, SetFits, ComponentFits, Known, Tuple}
@@ -30,8 +30,8 @@ region-more cs new r h =
       ascends = subst (λ xs. AscendingNumbers (map (λ c. c.axis) xs)) (sym (part-more r cs new h.within)) h.ascends;
     }
 
-regions_new : (cs : List Coordinate) (new : List (List Coordinate)) → All Ascends new → All (λ r. length r ≤ 65535) new →
-    All (RegionFits (cs ++ flat_map (λ r. r) new)) (spans_from (length cs) new)
+regions_new : (cs : List Coordinate) (new : List (List Coordinate)) → AllByRecursion Ascends new → AllByRecursion (λ r. length r ≤ 65535) new →
+    AllByRecursion (RegionFits (cs ++ flat_map (λ r. r) new)) (spans_from (length cs) new)
 regions_new cs [] a f = tt
 regions_new cs (r ∷ rs) a f =
     let more = flat_map (λ r. r) rs in
@@ -43,8 +43,8 @@ regions_new cs (r ∷ rs) a f =
       ascends = subst (λ xs. AscendingNumbers (map (λ c. c.axis) xs)) (sym (part_new (length cs) cs r refl)) a.0;
     } in (
       subst (λ xs. RegionFits xs s) e (region-more (cs ++ r) more s first),
-      subst (λ xs. All (RegionFits xs) (spans_from (length cs + length r) rs)) e
-          (subst (λ n. All (RegionFits ((cs ++ r) ++ more)) (spans_from n rs)) (length-append cs r) (regions_new (cs ++ r) rs a.1 f.1)),
+      subst (λ xs. AllByRecursion (RegionFits xs) (spans_from (length cs + length r) rs)) e
+          (subst (λ n. AllByRecursion (RegionFits ((cs ++ r) ++ more)) (spans_from n rs)) (length-append cs r) (regions_new (cs ++ r) rs a.1 f.1)),
     )
 
 spans_count : {X : Type 0} (at : ℕ) (xs : List (List X)) → length (spans_from at xs) ≡ length xs
@@ -53,8 +53,8 @@ spans_count at (x ∷ xs) = ap suc (spans_count (at + length x) xs)
 
 -- entries
 
-entries_new : (regions values at : ℕ) (ts : List NumberedTuple) → All (λ n. n < regions) (map (λ t. t.region) ts) → at + length (flat_map (λ t. t.tuple) ts) ≤ values →
-    All (EntryFits regions values) (entries_from at ts)
+entries_new : (regions values at : ℕ) (ts : List NumberedTuple) → AllByRecursion (λ n. n < regions) (map (λ t. t.region) ts) → at + length (flat_map (λ t. t.tuple) ts) ≤ values →
+    AllByRecursion (EntryFits regions values) (entries_from at ts)
 entries_new regions values at [] r l = tt
 entries_new regions values at (t ∷ ts) r l =
     let n = length-append t.tuple (flat_map (λ t. t.tuple) ts) in
@@ -68,8 +68,8 @@ entries_regions : (at : ℕ) (ts : List NumberedTuple) → map (λ e. e.region) 
 entries_regions at [] = refl
 entries_regions at (t ∷ ts) = ap (λ ns. t.region ∷ ns) (entries_regions (at + length t.tuple) ts)
 
-entries_tuples : (width values at : ℕ) (ts : List NumberedTuple) → All (λ t. length t.tuple ≡ width) ts → at + length (flat_map (λ t. t.tuple) ts) ≤ values →
-    All (Tuple width values) (entries_from at ts)
+entries_tuples : (width values at : ℕ) (ts : List NumberedTuple) → AllByRecursion (λ t. length t.tuple ≡ width) ts → at + length (flat_map (λ t. t.tuple) ts) ≤ values →
+    AllByRecursion (Tuple width values) (entries_from at ts)
 entries_tuples width values at [] w l = tt
 entries_tuples width values at (t ∷ ts) w l =
     let n = length-append t.tuple (flat_map (λ t. t.tuple) ts) in
@@ -83,12 +83,12 @@ set_more es new v w le s h =
     record {
       within = omega (arith, h.within, length-append es new);
       ascends = subst (λ xs. AscendingNumbers (map (λ e. e.region) xs)) e h.ascends;
-      tuples = subst (All (Tuple s.tuple_len w)) e (All-weaker (Tuple s.tuple_len v) (Tuple s.tuple_len w) (λ x t. omega arith) (part s.entries es) h.tuples);
+      tuples = subst (AllByRecursion (Tuple s.tuple_len w)) e (All-weaker (Tuple s.tuple_len v) (Tuple s.tuple_len w) (λ x t. omega arith) (part s.entries es) h.tuples);
     }
 
 set_new : (es : List Entry) (values width at : ℕ) (ts : List NumberedTuple) (s : DeltaSet) →
     s.entries ≡ record { place = length es; count = length ts } → s.tuple_len ≡ width →
-    AscendingNumbers (map (λ t. t.region) ts) → All (λ t. length t.tuple ≡ width) ts → at + length (flat_map (λ t. t.tuple) ts) ≤ values →
+    AscendingNumbers (map (λ t. t.region) ts) → AllByRecursion (λ t. length t.tuple ≡ width) ts → at + length (flat_map (λ t. t.tuple) ts) ≤ values →
     SetFits (es ++ entries_from at ts) values s
 set_new es values width at ts s at-end long order widths l =
     let new = entries_from at ts in
@@ -100,7 +100,7 @@ set_new es values width at ts s at-end long order widths l =
     record {
       within = omega (arith, length-append es new, n, p, k);
       ascends = subst AscendingNumbers (sym (ap (map (λ e. e.region)) e ∙ entries_regions at ts)) order;
-      tuples = subst (λ w. All (Tuple w values) (part s.entries (es ++ new))) (sym long) (subst (All (Tuple width values)) (sym e) (entries_tuples width values at ts widths l));
+      tuples = subst (λ w. AllByRecursion (Tuple w values) (part s.entries (es ++ new))) (sym long) (subst (AllByRecursion (Tuple width values)) (sym e) (entries_tuples width values at ts widths l));
     }
 
 -- components
@@ -123,20 +123,20 @@ component-more pairs m n le c h =
 
 -- tuples
 
-tuples_level : (width : ℕ) (ps : List Part) (cs : List Coordinate) (vs : List ℤ) → All (λ p. p.values ≡ width) ps → values_total ps ≡ length vs →
-    All (λ t. length t.tuple ≡ width) (tuples ps cs vs)
+tuples_level : (width : ℕ) (ps : List Part) (cs : List Coordinate) (vs : List ℤ) → AllByRecursion (λ p. p.values ≡ width) ps → values_total ps ≡ length vs →
+    AllByRecursion (λ t. length t.tuple ≡ width) (tuples ps cs vs)
 tuples_level width [] cs vs w e = tt
 tuples_level width (p ∷ ps) cs vs w e = (
   length-take-le p.values vs (omega arith) ∙ w.0,
   tuples_level width ps (drop p.axes cs) (drop p.values vs) w.1 (omega (arith, length-drop p.values vs)),
 )
 
-under-tuples : (P : List ℤ → Type 0) (ns : List ℕ) (ts : List RegionTuple) → All (λ t. P t.tuple) ts → All (λ t. P t.tuple) (under ns ts)
+under-tuples : (P : List ℤ → Type 0) (ns : List ℕ) (ts : List RegionTuple) → AllByRecursion (λ t. P t.tuple) ts → AllByRecursion (λ t. P t.tuple) (under ns ts)
 under-tuples P [] ts h = tt
 under-tuples P (n ∷ ns) [] h = tt
 under-tuples P (n ∷ ns) (t ∷ ts) h = (h.0, under-tuples P ns ts h.1)
 
-under_all : (P : ℕ → Type 0) (ns : List ℕ) (ts : List RegionTuple) → All P ns → All P (map (λ t. t.region) (under ns ts))
+under_all : (P : ℕ → Type 0) (ns : List ℕ) (ts : List RegionTuple) → AllByRecursion P ns → AllByRecursion P (map (λ t. t.region) (under ns ts))
 under_all P [] ts h = tt
 under_all P (n ∷ ns) [] h = tt
 under_all P (n ∷ ns) (t ∷ ts) h = (h.0, under_all P ns ts h.1)
@@ -150,14 +150,14 @@ under_sorted (n ∷ ns) (t ∷ ts) h = (under_all (λ m. n < m) ns ts h.0, under
 
 module _ (h : Lists) (d : Handed)
     (up : AddUp d.parts (length d.coordinates) (length d.values)) (level : Level d.parts) (order : RegionsAscend h d)
-    (below : All (λ n. n < length h.regions + length (new_regions h d)) (region_numbers h d)) (ascend : All Ascends (new_regions h d)) (limits : DeltaLimits h d) where
+    (below : AllByRecursion (λ n. n < length h.regions + length (new_regions h d)) (region_numbers h d)) (ascend : AllByRecursion Ascends (new_regions h d)) (limits : DeltaLimits h d) where
   abbrev named : List NumberedTuple
   named = under (region_numbers h d) (used d)
 
   abbrev stays : NumberedTuple → Bool
   stays t = not (all_zero t.tuple)
 
-  widths : All (λ t. length t.tuple ≡ tuple_len d.parts) (delta_set h d)
+  widths : AllByRecursion (λ t. length t.tuple ≡ tuple_len d.parts) (delta_set h d)
   widths =
       all_kept_by stays (λ t. length t.tuple ≡ tuple_len d.parts) named
       (under-tuples (λ t. length t ≡ tuple_len d.parts) (region_numbers h d) (used d)
@@ -169,16 +169,16 @@ module _ (h : Lists) (d : Handed)
       ascending_kept (λ t. t.region) stays named
       (ascending (map (λ t. t.region) named) (under_sorted (region_numbers h d) (used d) (sorted (region_numbers h d) order)))
 
-  numbers_below : (n : ℕ) → length h.regions + length (new_regions h d) ≡ n → All (λ k. k < n) (map (λ t. t.region) (delta_set h d))
+  numbers_below : (n : ℕ) → length h.regions + length (new_regions h d) ≡ n → AllByRecursion (λ k. k < n) (map (λ t. t.region) (delta_set h d))
   numbers_below n e =
-      subst (λ m. All (λ k. k < m) (map (λ t. t.region) (delta_set h d))) e
+      subst (λ m. AllByRecursion (λ k. k < m) (map (λ t. t.region) (delta_set h d))) e
       (all_kept (λ t. t.region) stays (λ k. k < length h.regions + length (new_regions h d)) named (under_all (λ k. k < length h.regions + length (new_regions h d)) (region_numbers h d) (used d) below))
 
-  module _ (old : All (SetFits h.entries (length h.values)) h.sets) where
+  module _ (old : AllByRecursion (SetFits h.entries (length h.values)) h.sets) where
     abbrev Fit : List NumberedTuple → DeltaSet → Type 0
     Fit ts = SetFits (h.entries ++ entries_from (length h.values) ts) (length (h.values ++ flat_map (λ t. t.tuple) ts))
 
-    sets_fit : (b : Bool) → All (Fit (cond b (delta_set h d) [])) (h.sets ++ cond b (set_record h d ∷ []) [])
+    sets_fit : (b : Bool) → AllByRecursion (Fit (cond b (delta_set h d) [])) (h.sets ++ cond b (set_record h d ∷ []) [])
     sets_fit b =
         All-append (Fit (cond b (delta_set h d) [])) h.sets (cond b (set_record h d ∷ []) [])
         (All-weaker _ (Fit (cond b (delta_set h d) []))
@@ -187,7 +187,7 @@ module _ (h : Lists) (d : Handed)
         h.sets old)
         (last b)
       where
-        last : (b : Bool) → All (Fit (cond b (delta_set h d) [])) (cond b (set_record h d ∷ []) [])
+        last : (b : Bool) → AllByRecursion (Fit (cond b (delta_set h d) [])) (cond b (set_record h d ∷ []) [])
         last true = (
           set_new h.entries (length (h.values ++ flat_map (λ t. t.tuple) (delta_set h d))) (tuple_len d.parts) (length h.values) (delta_set h d) (set_record h d) refl refl in_order widths
               (omega (arith, length-append h.values (flat_map (λ t. t.tuple) (delta_set h d)))),
@@ -195,14 +195,14 @@ module _ (h : Lists) (d : Handed)
         )
         last false = tt
 
-  module _ (old : All (EntryFits (length h.regions) (length h.values)) h.entries) (regions : ℕ) (more : length h.regions + length (new_regions h d) ≡ regions) where
-    entries_fit : (b : Bool) → All (EntryFits regions (length (h.values ++ flat_map (λ t. t.tuple) (cond b (delta_set h d) [])))) (h.entries ++ entries_from (length h.values) (cond b (delta_set h d) []))
+  module _ (old : AllByRecursion (EntryFits (length h.regions) (length h.values)) h.entries) (regions : ℕ) (more : length h.regions + length (new_regions h d) ≡ regions) where
+    entries_fit : (b : Bool) → AllByRecursion (EntryFits regions (length (h.values ++ flat_map (λ t. t.tuple) (cond b (delta_set h d) [])))) (h.entries ++ entries_from (length h.values) (cond b (delta_set h d) []))
     entries_fit b =
         let n = length-append h.values (flat_map (λ t. t.tuple) (cond b (delta_set h d) [])) in
         All-append (EntryFits regions (length (h.values ++ flat_map (λ t. t.tuple) (cond b (delta_set h d) [])))) h.entries (entries_from (length h.values) (cond b (delta_set h d) []))
         (All-weaker _ _ (λ e f. record { region = omega (arith, f.region); place = omega (arith, f.place, n) }) h.entries old)
         (entries_new regions (length (h.values ++ flat_map (λ t. t.tuple) (cond b (delta_set h d) []))) (length h.values) (cond b (delta_set h d) [])
-        (either (λ ts. All (λ k. k < regions) (map (λ t. t.region) ts)) b (delta_set h d) [] (numbers_below regions more) tt)
+        (either (λ ts. AllByRecursion (λ k. k < regions) (map (λ t. t.region) ts)) b (delta_set h d) [] (numbers_below regions more) tt)
         (omega (arith, n)))
 
   pub delta_sound : (mark : Option Mark) → Sound mark h → Sound mark (with_added h (added h d))

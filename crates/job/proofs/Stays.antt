@@ -12,7 +12,7 @@ use Rattle.memory.specs.declared.memory.Mark.{Mark}
 use Rattle.memory.specs.declared.records.Component.{Component}
 use Rattle.memory.specs.declared.records.Pair.{Pair}
 use Rattle.memory.specs.declared.records.Span.{Span}
-use Rattle.std.specs.List.{AllByRecursion as All}
+use Rattle.std.specs.List.{AllByRecursion}
 use Rattle.memory.proofs.Parts.{part-take, part-more, part_new}
 
 found_weaker : {X : Type 0} {P Q : X → Type 0} → ((x : X) → P x → Q x) → (o : Option X) → IfSome o P → IfSome o Q
@@ -23,7 +23,7 @@ found_both : {X : Type 0} {P Q R : X → Type 0} → ((x : X) → P x → Q x �
 found_both f None h k = tt
 found_both f (Some x) h k = f x h k
 
-all_both : {X : Type 0} (P Q R : X → Type 0) → ((x : X) → P x → Q x → R x) → (xs : List X) → All P xs → All Q xs → All R xs
+all_both : {X : Type 0} (P Q R : X → Type 0) → ((x : X) → P x → Q x → R x) → (xs : List X) → AllByRecursion P xs → AllByRecursion Q xs → AllByRecursion R xs
 all_both P Q R f [] h k = tt
 all_both P Q R f (x ∷ xs) h k = (f x h.0 k.0, all_both P Q R f xs h.1 k.1)
 
@@ -154,11 +154,11 @@ module _ (j : Job) (l : Lists) (fits : JobFits j l) where
       let n = long_components j l fits in
       let p = long_pairs j l fits in
       record {
-        composites = subst (All (Within j.counts.components)) (sym (length_less_one K.composites x)) (subst (λ k. All (Within k) K.composites) n s.composites);
+        composites = subst (AllByRecursion (Within j.counts.components)) (sym (length_less_one K.composites x)) (subst (λ k. AllByRecursion (Within k) K.composites) n s.composites);
         components =
             All-take _ j.counts.components K.components
             (All-weaker (ComponentFits K.pairs (length K.sets)) _ (λ c h. found_weaker (λ a f. omega (arith, f.within, p)) c.axes h.axes) K.components s.components);
-        axis_lists = subst (λ k. All (Within k) K.axis_lists) p s.axis_lists;
+        axis_lists = subst (λ k. AllByRecursion (Within k) K.axis_lists) p s.axis_lists;
       }
 
   pub added_below : (g : Given) → Below (state j l) → Below (added g (state j l))
@@ -169,7 +169,7 @@ module _ (j : Job) (l : Lists) (fits : JobFits j l) where
       below_at (Some m) f h =
           record {
             composites = h.composites;
-            components = subst (All (λ c. IfSome c.axes (Within m.pairs))) (sym (take-append-le m.components K.components (stored j.counts.pairs g ∷ []) f.components)) h.components;
+            components = subst (AllByRecursion (λ c. IfSome c.axes (Within m.pairs))) (sym (take-append-le m.components K.components (stored j.counts.pairs g ∷ []) f.components)) h.components;
             axis_lists = h.axis_lists;
           }
 
@@ -201,8 +201,8 @@ module _ (j : Job) (l : Lists) (fits : JobFits j l) where
           components =
               all_both (ComponentFits K.pairs (length K.sets)) (λ c. IfSome c.axes (Within m.pairs)) _ (λ c. axes_fewer m c (length K.sets) f.pairs)
               (take m.components K.components) (All-take _ m.components K.components s.components) below.components;
-          composites = subst (λ n. All (Within n) (take (j.counts.composites - 1) K.composites)) (sym cs) (subst (λ n. All (Within m.components) (take (n - 1) K.composites)) os below.composites);
-          axis_lists = subst (λ n. All (Within n) K.axis_lists) (sym ps) below.axis_lists;
+          composites = subst (λ n. AllByRecursion (Within n) (take (j.counts.composites - 1) K.composites)) (sym cs) (subst (λ n. AllByRecursion (Within m.components) (take (n - 1) K.composites)) os below.composites);
+          axis_lists = subst (λ n. AllByRecursion (Within n) K.axis_lists) (sym ps) below.axis_lists;
           groups = s.groups;
           begun = tt;
         }

@@ -1,6 +1,6 @@
 -- Delta sets added to a job.
 use Rattle.std.specs.Prelude.{List, [], ◌∷◌, length, Result}
-use Rattle.std.specs.List.{AllByRecursion as All}
+use Rattle.std.specs.List.{AllByRecursion}
 use Rattle.memory.specs.Lists.{Lists, held}
 use Rattle.memory.specs.declared.memory.Counts.{Counts}
 use Rattle.memory.specs.declared.records.TemporaryDeltaSetId.{TemporaryDeltaSetId}
@@ -25,7 +25,7 @@ delta_checks j l d =
     Memory unless JobFits j l ∷
     PartCounts unless AddUp d.parts (length d.coordinates) (length d.values) ∷
     TupleLengths unless Level d.parts ∷
-    AxisOrder unless All Ascends (cuts d.parts d.coordinates) ∷
+    AxisOrder unless AllByRecursion Ascends (cuts d.parts d.coordinates) ∷
     RegionOrder unless RegionsAscend (held j.counts l) d ∷
     NoRoom unless DeltaRoom j.counts l (added (held j.counts l) d) ∷
     Limit unless DeltaLimits (held j.counts l) d ∷ []

@@ -1,7 +1,7 @@
 -- Composites: begun, given components, closed or cancelled.
 use Rattle.std.specs.Prelude.{◌≡◌, ℕ, ◌+◌, ◌-◌, ◌≤◌, Bool, true, List, [], ◌∷◌, ◌++◌, map, length, take, is_some, IfSome, Some, None, Option, Result}
 use Rattle.std.specs.Option.{option_map}
-use Rattle.std.specs.List.{AllByRecursion as All}
+use Rattle.std.specs.List.{AllByRecursion}
 use Rattle.format.specs.declared.Transform.{Transform}
 use Rattle.keys.specs.Numbers.{AscendingNumbers}
 use Rattle.memory.specs.Fit.{Known, Within}
@@ -206,9 +206,9 @@ cancelled s = cancelled_at s.job.mark s
 -- What is closed lies below the mark: the composites before the open one, and the components and axis lists that stay where it is cancelled.
 -- `begin` establishes it, the other calls keep it, and `cancel` needs it to leave a job that fits.
 pub record BelowMark (h : Lists) (m : Mark) : Type 0 where
-  pub composites : All (Within m.components) (take (length h.composites - 1) h.composites)
-  pub components : All (λ c. IfSome c.axes (Within m.pairs)) (take m.components h.components)
-  pub axis_lists : All (Within m.pairs) h.axis_lists
+  pub composites : AllByRecursion (Within m.components) (take (length h.composites - 1) h.composites)
+  pub components : AllByRecursion (λ c. IfSome c.axes (Within m.pairs)) (take m.components h.components)
+  pub axis_lists : AllByRecursion (Within m.pairs) h.axis_lists
 
 abbrev pub Below : State → Type 0
 Below s = IfSome s.job.mark (BelowMark s.held)

@@ -1,7 +1,7 @@
 -- Groups of delta sets: a walk over all sets that counts a group at its first set.
 use Rattle.std.proofs.Common.{◌≡◌, ℕ, suc, ◌+◌, ◌<◌, ◌≤◌, Bool, true, false, cond, not, List, [], ◌∷◌, ◌++◌, map, length, get_or, take, drop, is_some, Some, None, Decides, Option, sym, refl, ap, ◌∙◌, subst, arith}
 use Rattle.std.specs.Option.{option_map}
-use Rattle.std.specs.List.{AllByRecursion as All}
+use Rattle.std.specs.List.{AllByRecursion}
 use Rattle.std.proofs.ByRecursion.{All-get_or, All-from_get_or, All-more}
 use Rattle.std.proofs.lemmas.List.Filters.{length-filter_both, length-filter_more}
 use Rattle.std.proofs.lemmas.Simd.{map-map}
@@ -160,7 +160,7 @@ count_groups ls = length (firsts (lists numbers) ls)
 pub record Walked (ls : List (List ℕ)) (i count : ℕ) : Type 0 where
   pub counts : count ≡ count_groups (take i ls)
   pub few_groups : count ≤ 65535
-  pub few_sets : All (Few ls) (take i ls)
+  pub few_sets : AllByRecursion (Few ls) (take i ls)
 
 module _ (ls : List (List ℕ)) (i count : ℕ) (walked : Walked ls i count) (key : List ℕ) (l : i < length ls) (is : key ≡ get_or ls i key) where
   next : take (i + 1) ls ≡ take i ls ++ key ∷ []
@@ -207,7 +207,7 @@ module _ (entries : List Entry) (sets : List DeltaSet) where
   pub walk_ends : (i count : ℕ) → length sets ≤ i → Walked L i count → Decides true (GroupsFit entries sets)
   walk_ends i count l w =
       let e = take_all i L (omega (arith, long_lists entries sets)) in
-      ((λ _. record { few_groups = omega (arith, w.counts, w.few_groups, ap count_groups e); few_sets = subst (All (Few L)) e w.few_sets }), λ _. refl)
+      ((λ _. record { few_groups = omega (arith, w.counts, w.few_groups, ap count_groups e); few_sets = subst (AllByRecursion (Few L)) e w.few_sets }), λ _. refl)
 
   -- a limit is passed
   fails : (GroupsFit entries sets → ⊥) → Decides false (GroupsFit entries sets)

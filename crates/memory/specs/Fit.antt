@@ -1,6 +1,6 @@
 -- When a job fits its memory.
 use Rattle.std.specs.Prelude.{◌≡◌, ℕ, ◌+◌, ◌<◌, ◌≤◌, ◌⊎◌, List, map, length, IfSome, Option}
-use Rattle.std.specs.List.{AllByRecursion as All}
+use Rattle.std.specs.List.{AllByRecursion}
 use Rattle.keys.specs.Numbers.{AscendingNumbers}
 use Rattle.memory.specs.Groups.{GroupsFit}
 use Rattle.memory.specs.Lists.{Lists, held, part}
@@ -33,7 +33,7 @@ Tuple width values e = e.place + width ≤ values
 pub record SetFits (entries : List Entry) (values : ℕ) (s : DeltaSet) : Type 0 where
   pub within : Within (length entries) s.entries
   pub ascends : AscendingNumbers (map (λ e. e.region) (part s.entries entries))
-  pub tuples : All (Tuple s.tuple_len values) (part s.entries entries)
+  pub tuples : AllByRecursion (Tuple s.tuple_len values) (part s.entries entries)
 
 -- the axis values of a component
 pub record AxesFit (pairs : List Pair) (s : Span) : Type 0 where
@@ -59,12 +59,12 @@ pub record MarkFits (h : Lists) (m : Mark) : Type 0 where
 -- the filled part is as it should be
 pub record Sound (mark : Option Mark) (h : Lists) : Type 0 where
   pub few : length h.regions ≤ 65535
-  pub regions : All (RegionFits h.coordinates) h.regions
-  pub entries : All (EntryFits (length h.regions) (length h.values)) h.entries
-  pub sets : All (SetFits h.entries (length h.values)) h.sets
-  pub components : All (ComponentFits h.pairs (length h.sets)) h.components
-  pub composites : All (Within (length h.components)) h.composites
-  pub axis_lists : All (Within (length h.pairs)) h.axis_lists
+  pub regions : AllByRecursion (RegionFits h.coordinates) h.regions
+  pub entries : AllByRecursion (EntryFits (length h.regions) (length h.values)) h.entries
+  pub sets : AllByRecursion (SetFits h.entries (length h.values)) h.sets
+  pub components : AllByRecursion (ComponentFits h.pairs (length h.sets)) h.components
+  pub composites : AllByRecursion (Within (length h.components)) h.composites
+  pub axis_lists : AllByRecursion (Within (length h.pairs)) h.axis_lists
   pub groups : GroupsFit h.entries h.sets
   pub begun : IfSome mark (MarkFits h)
 

@@ -1,6 +1,6 @@
 -- Groups of delta sets: sets with equal lists of region numbers form a group.
 use Rattle.std.specs.Prelude.{ℕ, ◌≤◌, List, map, length, filter}
-use Rattle.std.specs.List.{AllByRecursion as All}
+use Rattle.std.specs.List.{AllByRecursion}
 use Rattle.keys.specs.Places.{firsts}
 use Rattle.keys.specs.Sameness.{lists, numbers}
 use Rattle.memory.specs.Lists.{part}
@@ -26,4 +26,4 @@ like key regions = length (filter (λ other. (lists numbers).test other key) reg
 -- no more groups than 65,535, and no more sets in any of them
 pub record GroupsFit (entries : List Entry) (sets : List DeltaSet) : Type 0 where
   pub few_groups : length (groups entries sets) ≤ 65535
-  pub few_sets : All (λ key. like key (region_lists entries sets) ≤ 65535) (region_lists entries sets)
+  pub few_sets : AllByRecursion (λ key. like key (region_lists entries sets) ≤ 65535) (region_lists entries sets)

@@ -1,6 +1,6 @@
 // Tests of all the records of a list.
 ghost use Rattle.std.specs.Prelude.{◌≡◌, ℕ, ◌+◌, ◌<◌, ◌≤◌, map, length, Decides};
-ghost use Rattle.std.specs.List.{AllByRecursion as All};
+ghost use Rattle.std.specs.List.{AllByRecursion};
 ghost use Rattle.keys.specs.Numbers.{AscendingNumbers};
 ghost use Rattle.memory.specs.Fit.{Within};
 ghost use Rattle.memory.specs.Lists.{part};
@@ -19,7 +19,7 @@ pub trait Test {
 }
 
 pub fn all_pass<C: Test>(test: &C, xs: &[C::Record]) -> bool
-    ensures { Decides result (All (C.Passes test.now) xs.now) }
+    ensures { Decides result (AllByRecursion (C.Passes test.now) xs.now) }
 {
     for x in xs {
         if !test.passes(x) {
@@ -77,7 +77,7 @@ pub fn part_ascends<T: Numbered>(xs: &[T], s: Span) -> bool
 
 pub fn part_passes<C: Test>(test: &C, xs: &[C::Record], s: Span) -> bool
     requires { Within (length xs.now) s }
-    ensures { Decides result (All (C.Passes test.now) (part s xs.now)) }
+    ensures { Decides result (AllByRecursion (C.Passes test.now) (part s xs.now)) }
 {
     all_pass(test, part_of(xs, s))
 }
