@@ -76,7 +76,7 @@ abbrev pub all_zero : List ℤ → Bool
 all_zero [] = true
 all_zero (v ∷ vs) = same_integer v (pos 0) && all_zero vs
 
--- The delta set that is handed in: all_zero tuples are dropped.
+-- The delta set that is handed in: all-zero tuples are dropped.
 abbrev pub delta_set : Lists → Handed → List NumberedTuple
 delta_set h d = filter (λ t. not (all_zero t.tuple)) (under (region_numbers h d) (used d))
 

@@ -1,5 +1,5 @@
 -- An INDEX (CFF2): a count, an offset size, offsets from 1, and the items' bytes end to end.
-use Rattle.std.specs.Prelude.{ℕ, zero, suc, ◌+◌, ◌-◌, ◌*◌, Bool, cond, ◌||◌, ltb, leb, List, [], ◌∷◌, ◌++◌, length, take, drop, nat_eq, nat_le, nat_lt, slice_index_or}
+use Rattle.std.specs.Prelude.{ℕ, zero, suc, ◌+◌, ◌-◌, ◌*◌, Bool, cond, ◌||◌, List, [], ◌∷◌, ◌++◌, length, take, drop, nat_eq, nat_le, nat_lt, slice_index_or}
 use Rattle.std.specs.List.{flat_map}
 use Rattle.write.specs.Bytes.{be}
 use Rattle.format.specs.declared.Layer.TheVariants.{Index}
@@ -46,7 +46,7 @@ unfoldable pub read_offsets : ℕ → ℕ → (ℕ → Bool) → (ℕ → Bool) 
 read_offsets end size past test zero bs = got [] bs
 read_offsets end size past test (suc n) bs =
     then (read_offset end size past test bs) (λ o rest.
-    then (read_offsets end size past (leb o) n rest) (λ os rest'. got (o ∷ os) rest'))
+    then (read_offsets end size past (nat_le o) n rest) (λ os rest'. got (o ∷ os) rest'))
 
 -- is the offset size wrong?
 abbrev pub wrong_size : ℕ → Bool
@@ -65,7 +65,7 @@ item end i bs =
     cond (nat_le n i) (bad 24 (end - length bs) Index)
     (then (fixed Index end 1 rest) (λ size rest'.
     cond (wrong_size size) (bad 22 (end - length rest) Index)
-    (then (read_offsets end size (λ o. ltb (length bs) (4 + (n + 1) * size + o)) (nat_eq 1) (suc n) rest') (λ os items.
+    (then (read_offsets end size (λ o. nat_lt (length bs) (4 + (n + 1) * size + o)) (nat_eq 1) (suc n) rest') (λ os items.
     let a = slice_index_or os i 0 in
     let b = slice_index_or os (suc i) 0 in
     got (take (b - a) (drop (a - 1) items)) (drop (b - 1) items))))))

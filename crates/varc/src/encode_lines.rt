@@ -4,7 +4,7 @@ use encode::{PackedDeltas, Uint32Var};
 use index::{ByteStrings, Index};
 use std::alloc::{AllocError, AllocFailed, Global};
 use std::fmt;
-use std::io::{BufRead, BufReader};
+use std::io::{self, BufRead, BufReader};
 use std::str::SplitWhitespace;
 use whole::to_vec;
 
@@ -167,17 +167,24 @@ impl<'a> fmt::Display for Hex<'a> {
     }
 }
 
+// Says that standard input cannot be read.
+fn unreadable(rt: &HostRuntime, error: io::Error) -> Result<(), Failure> {
+    eprintln!(rt; "varc: standard input cannot be read: {error}")?;
+    Err(Failure::Refused)
+}
+
 // Answers each line of standard input on a line of its own. Blank lines and those that begin with '#' are passed over.
 pub fn encode(rt: &HostRuntime) -> Result<(), Failure> {
     let heap = rt.alloc();
     let mut refused = false;
-    for line in BufReader::new(heap, rt.stdin())?.lines(heap) {
+    let input = match BufReader::new(heap, rt.stdin()) {
+        Ok(input) => input,
+        Err(e) => return unreadable(rt, e),
+    };
+    for line in input.lines(heap) {
         let line = match line {
             Ok(line) => line,
-            Err(e) => {
-                eprintln!(rt; "varc: standard input cannot be read: {e}")?;
-                return Err(Failure::Refused);
-            }
+            Err(e) => return unreadable(rt, e),
         };
         let text = line.as_str().trim();
         if text.is_empty() || text.starts_with('#') {

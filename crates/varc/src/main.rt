@@ -4,6 +4,7 @@
 mod encode_lines;
 mod sum;
 
+use std::process::ExitCode;
 use std::{env, io};
 
 const USAGE: &str = "varc: variable composites of OpenType fonts (the VARC table)
@@ -59,10 +60,14 @@ fn run(rt: &HostRuntime) -> Result<(), Failure> {
     }
 }
 
-fn main(rt: HostRuntime) -> Result<(), Failure> {
-    let result = run(&rt);
-    if let Err(Failure::Output(e)) = &result {
-        let _ = eprintln!(rt; "varc: the output cannot be written: {e}");
+// A refusal is said where it is met, so that the status is all that is left to say here.
+fn main(rt: HostRuntime) -> ExitCode {
+    match run(&rt) {
+        Ok(()) => ExitCode::SUCCESS,
+        Err(Failure::Refused) => ExitCode::FAILURE,
+        Err(Failure::Output(e)) => {
+            let _ = eprintln!(rt; "varc: the output cannot be written: {e}");
+            ExitCode::FAILURE
+        }
     }
-    result
 }
