@@ -75,6 +75,6 @@ pub fn to_vec<T: FontWrite>(heap: Global, value: &T) -> Result<Vec<u8>, AllocErr
     let mut out = vec![in heap; 0u8; length]?;
     match write_to_slice(value, &mut out) {
         Ok(_) => Ok(out),
-        Err(_) => Err(AllocError),
+        Err(_) => unreachable(),
     }
 }
