@@ -4,6 +4,7 @@ use Rattle.std.proofs.lemmas.List.{get_or-map, length-map}
 use Rattle.std.proofs.ByRecursion.{All-get_or, All-map, All-weaker}
 use Rattle.std.proofs.lemmas.Bool.{ne_eqb}
 use Rattle.std.specs.List.{flat_map, AllByRecursion}
+use Rattle.format.specs.declared.FaultKind.TheVariants.{Missing}
 use Rattle.format.specs.declared.Layer.TheVariants.{Record, Index}
 use Rattle.format.specs.Reads.{Read, got, bad, fault, outcome}
 use Rattle.format.specs.Packed.{packed}
@@ -38,7 +39,7 @@ component_reads look end (c ∷ cs) h (suc j) d lt =
     at_suc look end c (flat_map component cs) j _ (components look c h.0 end (flat_map component cs)) ∙ component_reads look end cs h.1 j d (omega arith)
 
 component_none : (look : ℕ → Read (List ℤ)) (end : ℕ) (cs : List Component) → AllByRecursion (ComponentFits (AxesFit look)) cs → (j : ℕ) → length cs ≤ j →
-    component_at look end j (flat_map component cs) ≡ bad 24 end Record
+    component_at look end j (flat_map component cs) ≡ bad Missing end Record
 component_none look end [] h zero le = refl
 component_none look end [] h (suc j) le = refl
 component_none look end (c ∷ cs) h zero le = absurd (omega arith)
@@ -63,7 +64,7 @@ axis_list_reads bs r lists after p e h fits n lt =
 
 axis_list_none : (bs : List ℕ) (r : Root) (lists : List (List ℕ)) (after : List ℕ) → 0 < r.axis_lists → drop r.axis_lists bs ≡ index (map (λ axes. packed (map pos axes)) lists) ++ after →
     length (index (map (λ axes. packed (map pos axes)) lists)) < 2 ^ 32 → (n : ℕ) → length lists ≤ n →
-    axis_list_in bs r n ≡ bad 24 (length bs - length (index (map (λ axes. packed (map pos axes)) lists) ++ after)) Index
+    axis_list_in bs r n ≡ bad Missing (length bs - length (index (map (λ axes. packed (map pos axes)) lists) ++ after)) Index
 unfolding axis_list_in
 axis_list_none bs r lists after p e h n le =
     let items = map (λ axes. packed (map pos axes)) lists in
@@ -194,7 +195,7 @@ module _ (k : Content) (coverage conditions : List ℕ) (sound : Sound k) (short
   each_composite i lt = rw (root_is, composites_at, mapped_item (flat_map component) k.composites (length bs) i [] [] composites_short lt)
 
   pub no_component : (i j : ℕ) → i < length k.composites → length (get_or k.composites i []) ≤ j →
-      outcome (component_of bs i j) ≡ Err (fault 24 (r.composites + item_end (map (flat_map component) k.composites) i) Record)
+      outcome (component_of bs i j) ≡ Err (fault Missing (r.composites + item_end (map (flat_map component) k.composites) i) Record)
   unfolding composite_index
   no_component i j lt le =
       rw (
@@ -203,19 +204,19 @@ module _ (k : Content) (coverage conditions : List ℕ) (sound : Sound k) (short
         mapped_item (flat_map component) k.composites (length bs) i [] [] composites_short lt,
         component_none (axis_list_in bs r) _ (get_or k.composites i []) (composite_fits i lt) j le,
       )
-      (ap (λ (p : ℕ). Err (fault 24 p Record)) (records_end i lt))
+      (ap (λ (p : ℕ). Err (fault Missing p Record)) (records_end i lt))
 
-  pub no_composite : (i j : ℕ) → length k.composites ≤ i → outcome (component_of bs i j) ≡ Err (fault 24 r.composites Index)
+  pub no_composite : (i j : ℕ) → length k.composites ≤ i → outcome (component_of bs i j) ≡ Err (fault Missing r.composites Index)
   unfolding composite_index
   no_composite i j le =
       rw (root_is, composites_at, (items_read items composites_short (length bs) [] i).1 (rw (length-map k.composites (flat_map component)) le))
-      (ap (λ (p : ℕ). Err (fault 24 p Index)) index_place)
+      (ap (λ (p : ℕ). Err (fault Missing p Index)) index_place)
 
   pub each_axis_list : (n : ℕ) → n < length k.axis_lists → outcome (axis_list_of bs n) ≡ Ok (map pos (get_or k.axis_lists n []))
   each_axis_list n lt = rw (root_is, axis_list_is n lt)
 
-  pub no_axis_list : (n : ℕ) → length k.axis_lists ≤ n → outcome (axis_list_of bs n) ≡ Err (fault 24 r.axis_lists Index)
+  pub no_axis_list : (n : ℕ) → length k.axis_lists ≤ n → outcome (axis_list_of bs n) ≡ Err (fault Missing r.axis_lists Index)
   unfolding axis_index
   no_axis_list n le =
       rw (root_is, axis_list_none bs r k.axis_lists (composite_index k ++ []) (omega arith) axes_at axes_short n le)
-      (ap (λ (p : ℕ). Err (fault 24 p Index)) axes_place)
+      (ap (λ (p : ℕ). Err (fault Missing p Index)) axes_place)

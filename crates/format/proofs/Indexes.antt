@@ -5,6 +5,7 @@ use Rattle.std.proofs.lemmas.Bool.{le-ltb, lt-leb, le-leb}
 use Rattle.std.proofs.lemmas.Bool.Decides.{nat_tests}
 use Rattle.std.specs.List.{flat_map}
 use Rattle.write.specs.Bytes.{be}
+use Rattle.format.specs.declared.FaultKind.TheVariants.{Missing}
 use Rattle.format.specs.declared.Layer.TheVariants.{Index}
 use Rattle.format.specs.Reads.{got, bad}
 use Rattle.format.specs.Index.{concat, offsets, offset_size, size_of, index, item_end, read_offset, read_offsets, wrong_size, item}
@@ -99,7 +100,7 @@ module _ (end : ℕ) (items : List (List ℕ)) (size : ℕ) (after : List ℕ) (
         slice_after items i after lt,
       )
 
-  laid_none : length items ≤ i → item end i (laid items size after) ≡ bad 24 (end - length (laid items size after)) Index
+  laid_none : length items ≤ i → item end i (laid items size after) ≡ bad Missing (end - length (laid items size after)) Index
   unfolding item
   laid_none le = rw (fixed_reads Index end 4 (length items) many _, le-leb (length items) i le)
 
@@ -107,7 +108,7 @@ pub index_is : (x : List ℕ) (xs : List (List ℕ)) (after : List ℕ) → inde
 unfolding index
 index_is x xs after = simp append_assoc
 
-empty_item : (end : ℕ) (after : List ℕ) (i : ℕ) → item end i (index [] ++ after) ≡ bad 24 (end - length (index [] ++ after)) Index
+empty_item : (end : ℕ) (after : List ℕ) (i : ℕ) → item end i (index [] ++ after) ≡ bad Missing (end - length (index [] ++ after)) Index
 unfolding index item
 empty_item end after i = rw (fixed_reads Index end 4 0 (omega arith) after, le-leb 0 i (omega arith))
 
@@ -139,7 +140,7 @@ index_some (x ∷ xs) = omega (arith, length-index x xs)
 -- the items of an INDEX, wherever the bytes end
 pub items_read : (items : List (List ℕ)) → length (index items) < 2 ^ 32 → (end : ℕ) (after : List ℕ) (i : ℕ) →
     (i < length items → item end i (index items ++ after) ≡ got (get_or items i []) (concat (drop (suc i) items) ++ after)) ×
-    (length items ≤ i → item end i (index items ++ after) ≡ bad 24 (end - length (index items ++ after)) Index)
+    (length items ≤ i → item end i (index items ++ after) ≡ bad Missing (end - length (index items ++ after)) Index)
 items_read [] h end after i = (λ lt. absurd (omega arith), λ le. empty_item end after i)
 items_read (x ∷ xs) h end after i =
     let e = length-index x xs in
@@ -158,5 +159,5 @@ indexes items h before after =
     let place : length (before ++ (index items ++ after)) - length (index items ++ after) ≡ length before = simp length-append (omega arith) in
     record {
       each_item = λ i lt. rw at ((items_read items h (length bs) after i).0 lt);
-      no_item = λ i le. rw at ((items_read items h (length bs) after i).1 le ∙ ap (λ (p : ℕ). bad 24 p Index) place);
+      no_item = λ i le. rw at ((items_read items h (length bs) after i).1 le ∙ ap (λ (p : ℕ). bad Missing p Index) place);
     }

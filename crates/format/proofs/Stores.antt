@@ -5,6 +5,7 @@ use Rattle.std.proofs.lemmas.List.{get_or-map, length-map, drop_at, take_at, dro
 use Rattle.std.proofs.ByRecursion.{All-get_or, All-append}
 use Rattle.std.proofs.lemmas.Bool.{ne_eqb, eq-eqb, lt-leb, le-leb}
 use Rattle.std.specs.List.{flat_map, AllByRecursion}
+use Rattle.format.specs.declared.FaultKind.TheVariants.{Missing}
 use Rattle.format.specs.declared.Coordinate.{Coordinate}
 use Rattle.write.specs.Bytes.{be, signed16}
 use Rattle.format.specs.declared.Layer.TheVariants.{Store, Index}
@@ -64,7 +65,7 @@ set_reads end g f inner lt short after =
     (tuples_read g.over (get_or g.sets inner []) (All-get_or (SetFits (length g.over)) g.sets inner [] lt f.sets_fit) _)
 
 pub set_none : (end : ℕ) (g : Subtable) → SubtableFits g → (inner : ℕ) → length g.sets ≤ inner → length (index (map set_bytes g.sets)) < 2 ^ 32 → (after : List ℕ) →
-    set_in end inner (subtable g ++ after) ≡ bad 24 (end - length (index (map set_bytes g.sets) ++ after)) Index
+    set_in end inner (subtable g ++ after) ≡ bad Missing (end - length (index (map set_bytes g.sets) ++ after)) Index
 unfolding set_in
 set_none end g f inner le short after =
     rw (
@@ -147,7 +148,7 @@ module _ (list : List ℕ) (subtables : List (List ℕ)) (after bs : List ℕ) (
   pub head_is : (end : ℕ) → store_head end bs ≡ got head (be 2 (length subtables) ++ (flat_map (be 4) places ++ (list ++ (concat subtables ++ after))))
   head_is end = store_head_reads end bs head _ (laid.is ∙ simp append_assoc) (omega arith) (within head bs list _ list_at laid.some) laid.short
 
-  pub slot_none : (end outer inner : ℕ) → length subtables ≤ outer → slot_in end outer inner bs ≡ bad 24 (end - (length bs - 6)) Store
+  pub slot_none : (end outer inner : ℕ) → length subtables ≤ outer → slot_in end outer inner bs ≡ bad Missing (end - (length bs - 6)) Store
   unfolding slot_in
   slot_none end outer inner le =
       let rest = be 2 (length subtables) ++ (flat_map (be 4) places ++ (list ++ (concat subtables ++ after))) in
@@ -214,12 +215,12 @@ module _ (rs : List (List ℕ)) (after bs : List ℕ) (is : bs ≡ concat (list_
         region_at i lt,
       )
 
-  region_lacks : (end i : ℕ) → length rs ≤ i → region_in end i bs ≡ bad 24 (end - length bs) Store
+  region_lacks : (end i : ℕ) → length rs ≤ i → region_in end i bs ≡ bad Missing (end - length bs) Store
   unfolding region_in
   region_lacks end i le = rw (list-head end, le-leb (length rs) i le)
 
 pub region_none : (regions : List (List Coordinate)) (after bs : List ℕ) → bs ≡ region_list regions ++ after → length regions < 2 ^ 16 → length bs < 2 ^ 32 →
-    (end i : ℕ) → length regions ≤ i → region_in end i bs ≡ bad 24 (end - length bs) Store
+    (end i : ℕ) → length regions ≤ i → region_in end i bs ≡ bad Missing (end - length bs) Store
 unfolding region_list
 region_none regions after bs is few short end i le =
     let n : length (map region regions) ≡ length regions = length-map regions region in

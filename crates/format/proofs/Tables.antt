@@ -3,6 +3,7 @@ use Rattle.std.proofs.Common.{◌≡◌, ℕ, suc, ◌+◌, ◌-◌, ◌*◌, �
 use Rattle.std.proofs.lemmas.List.{get_or-map, length-map}
 use Rattle.std.proofs.ByRecursion.{All-get_or}
 use Rattle.std.proofs.lemmas.Bool.{ne_eqb, cases_lt}
+use Rattle.format.specs.declared.FaultKind.TheVariants.{Missing}
 use Rattle.format.specs.declared.Coordinate.{Coordinate}
 use Rattle.format.specs.declared.Layer.TheVariants.{Table, Store, Index}
 use Rattle.format.specs.Reads.{got, between, fault, outcome}
@@ -76,10 +77,10 @@ module _ (k : Content) (coverage conditions : List ℕ) (sound : Sound k) (short
     unfolding store
     absent = rw (store_none k.regions k.subtables none)
 
-    no_slots : (slot : ℕ) → slot < 0xFFFFFFFF → outcome (tuples_of bs slot) ≡ Err (fault 24 8 Table)
+    no_slots : (slot : ℕ) → slot < 0xFFFFFFFF → outcome (tuples_of bs slot) ≡ Err (fault Missing 8 Table)
     no_slots slot lt = rw (root_is, ne_eqb slot 0xFFFFFFFF (omega arith), absent)
 
-    no_regions : (n : ℕ) → outcome (region_of bs n) ≡ Err (fault 24 8 Table)
+    no_regions : (n : ℕ) → outcome (region_of bs n) ≡ Err (fault Missing 8 Table)
     no_regions n = rw (root_is, absent)
 
   abbrev behind : ℕ → List ℕ
@@ -145,11 +146,11 @@ module _ (k : Content) (coverage conditions : List ℕ) (sound : Sound k) (short
         let m = subtable-bytes g in
         simp length-append (omega (arith, n, m.0, m.1))
 
-    no_set : length g.sets ≤ inner → inner < 2 ^ 16 → outcome (tuples_of bs (outer * 65536 + inner)) ≡ Err (fault 24 (sets_place k r.store outer g) Index)
-    no_set le small = rw (leads small, set_none (length bs) g subtable_fits inner le sets_short (behind outer)) (ap (λ (p : ℕ). Err (fault 24 p Index)) place)
+    no_set : length g.sets ≤ inner → inner < 2 ^ 16 → outcome (tuples_of bs (outer * 65536 + inner)) ≡ Err (fault Missing (sets_place k r.store outer g) Index)
+    no_set le small = rw (leads small, set_none (length bs) g subtable_fits inner le sets_short (behind outer)) (ap (λ (p : ℕ). Err (fault Missing p Index)) place)
 
   no_subtable : (outer inner : ℕ) → 0 < length k.subtables → length k.subtables ≤ outer → inner < 2 ^ 16 → outer * 65536 + inner < 0xFFFFFFFF →
-      outcome (tuples_of bs (outer * 65536 + inner)) ≡ Err (fault 24 (r.store + 6) Store)
+      outcome (tuples_of bs (outer * 65536 + inner)) ≡ Err (fault Missing (r.store + 6) Store)
   no_subtable outer inner some le small slot =
       let from = drop r.store bs in
       let not-sentinel : eqb (outer * 65536 + inner) 0xFFFFFFFF ≡ false = ne_eqb _ _ (omega arith) in
@@ -162,7 +163,7 @@ module _ (k : Content) (coverage conditions : List ℕ) (sound : Sound k) (short
         out,
         slot_none list written after from (laid some) (length bs) outer _ (rw (length-map k.subtables subtable) le),
       )
-      (ap (λ (p : ℕ). Err (fault 24 p Store)) place)
+      (ap (λ (p : ℕ). Err (fault Missing p Store)) place)
 
   module _ (n : ℕ) (some : 0 < length k.subtables) where
     abbrev from : List ℕ
@@ -186,7 +187,7 @@ module _ (k : Content) (coverage conditions : List ℕ) (sound : Sound k) (short
         let m = length-map k.subtables subtable in
         simp length-drop (omega (arith, simp length-drop at l, m))
 
-    no_region : length k.regions ≤ n → outcome (region_of bs n) ≡ Err (fault 24 (r.store + list_start (length k.subtables)) Store)
+    no_region : length k.regions ≤ n → outcome (region_of bs n) ≡ Err (fault Missing (r.store + list_start (length k.subtables)) Store)
     no_region le =
         rw (
           root_is,
@@ -194,7 +195,7 @@ module _ (k : Content) (coverage conditions : List ℕ) (sound : Sound k) (short
           head_is list written after from (laid some) (length bs),
           region_none k.regions (concat written ++ after) (drop (list_start (length written)) from) listed sound.few_regions (simp length-drop (omega arith)) (length bs) n le,
         )
-        (ap (λ (p : ℕ). Err (fault 24 p Store)) list_place)
+        (ap (λ (p : ℕ). Err (fault Missing p Store)) list_place)
 
   conditions_stand : between bs r.conditions (r.conditions + length conditions) ≡ conditions
   unfolding table

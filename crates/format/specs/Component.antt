@@ -6,7 +6,6 @@ use Rattle.std.specs.List.{flat_map}
 use Rattle.write.specs.Bytes.{be, signed16}
 use Rattle.write.specs.Optional.{present}
 use Rattle.format.specs.declared.Transform.{Transform}
-use Rattle.format.specs.declared.SettledTransform.{SettledTransform}
 use Rattle.format.specs.declared.Layer.TheVariants.{Record}
 use Rattle.format.specs.Reads.{Read, got, then, fixed, optional}
 use Rattle.format.specs.Number.{number, read_number}
@@ -22,7 +21,7 @@ pub record Component : Type 0 where
   pub axes : Option (ℕ × List ℤ)
   pub axes_slot : Option ℕ
   pub transform_slot : Option ℕ
-  pub transform : Transform
+  pub transform : Transform (Option ℤ)
 
 -- The fields in the order in which they stand. One with a flag bit is there only where that bit is set. They do not stand in the order of
 -- their bits: the condition (7) comes before the axes (1), skew (13, 14) before centre (10, 11).
@@ -41,7 +40,7 @@ pub record Component : Type 0 where
 -- that is set.
 
 -- the nine numbers of the transform in the order of their fields
-abbrev pub nine : Transform → List (Option ℤ)
+abbrev pub nine : Transform (Option ℤ) → List (Option ℤ)
 nine t =
     t.translate_x ∷ t.translate_y ∷ t.rotation ∷ t.scale_x ∷ t.scale_y ∷ t.skew_x ∷ t.skew_y ∷
     t.center_x ∷ t.center_y ∷ []
@@ -91,7 +90,7 @@ or_default d None = d
 or_default d (Some z) = z
 
 -- an absent number is 0, an absent scale 1024 (1.0), each by itself: an absent scale y does not take scale x
-abbrev pub settled : Transform → SettledTransform
+abbrev pub settled : Transform (Option ℤ) → Transform ℤ
 settled t = record {
   translate_x = or_default (pos 0) t.translate_x;
   translate_y = or_default (pos 0) t.translate_y;
@@ -135,7 +134,7 @@ skipped end (true ∷ flags) bs = then (read_number end bs) (λ _ rest. skipped 
 skipped end (false ∷ flags) bs = skipped end flags bs
 
 -- the transform whose nine numbers are these
-abbrev pub transform_of : List (Option ℤ) → Transform
+abbrev pub transform_of : List (Option ℤ) → Transform (Option ℤ)
 transform_of xs = record {
   translate_x = slice_index_or xs 0 None;
   translate_y = slice_index_or xs 1 None;

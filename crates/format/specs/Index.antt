@@ -2,6 +2,7 @@
 use Rattle.std.specs.Prelude.{ℕ, zero, suc, ◌+◌, ◌-◌, ◌*◌, Bool, cond, ◌||◌, List, [], ◌∷◌, ◌++◌, length, take, drop, nat_eq, nat_le, nat_lt, slice_index_or}
 use Rattle.std.specs.List.{flat_map}
 use Rattle.write.specs.Bytes.{be}
+use Rattle.format.specs.declared.FaultKind.TheVariants.{Missing, Past, Wrong}
 use Rattle.format.specs.declared.Layer.TheVariants.{Index}
 use Rattle.format.specs.Reads.{Read, got, bad, then, fixed}
 
@@ -39,7 +40,7 @@ item_end items i = 5 + (length items + 1) * size_of items + length (concat (take
 abbrev pub read_offset : ℕ → ℕ → (ℕ → Bool) → (ℕ → Bool) → List ℕ → Read ℕ
 read_offset end size past test bs =
     then (fixed Index end size bs) (λ o rest.
-    cond (past o) (bad 21 (end - length bs) Index) (cond (test o) (got o rest) (bad 22 (end - length bs) Index)))
+    cond (past o) (bad Past (end - length bs) Index) (cond (test o) (got o rest) (bad Wrong (end - length bs) Index)))
 
 -- n offsets, the first passing a test, each other not below the one before
 unfoldable pub read_offsets : ℕ → ℕ → (ℕ → Bool) → (ℕ → Bool) → ℕ → List ℕ → Read (List ℕ)
@@ -62,9 +63,9 @@ count end bs = fixed Index end 4 bs
 unfoldable pub item : ℕ → ℕ → List ℕ → Read (List ℕ)
 item end i bs =
     then (count end bs) (λ n rest.
-    cond (nat_le n i) (bad 24 (end - length bs) Index)
+    cond (nat_le n i) (bad Missing (end - length bs) Index)
     (then (fixed Index end 1 rest) (λ size rest'.
-    cond (wrong_size size) (bad 22 (end - length rest) Index)
+    cond (wrong_size size) (bad Wrong (end - length rest) Index)
     (then (read_offsets end size (λ o. nat_lt (length bs) (4 + (n + 1) * size + o)) (nat_eq 1) (suc n) rest') (λ os items.
     let a = slice_index_or os i 0 in
     let b = slice_index_or os (suc i) 0 in

@@ -2,6 +2,7 @@
 use Rattle.std.specs.Prelude.{◌≡◌, ℕ, suc, ◌+◌, ◌*◌, ◌^◌, ◌<◌, ◌≤◌, List, [], ◌∷◌, ◌++◌, map, length, get_or, drop, ℤ, pos, Ok, Err, slice_index, slice_index_or}
 use Rattle.std.specs.List.{flat_map, AllByRecursion}
 use Rattle.write.specs.Bytes.{be}
+use Rattle.format.specs.declared.FaultKind.TheVariants.{Missing}
 use Rattle.format.specs.declared.Layer.TheVariants.{Table, Store, Index, Record}
 use Rattle.format.specs.Reads.{Read, got, bad, between, fault, outcome}
 use Rattle.format.specs.Number.{raised, number, read_number}
@@ -37,14 +38,14 @@ PackedReadsBack =
 
 -- ---- INDEX
 
--- the items of an INDEX that stands after some bytes and before others; an item past the last is fault 24 at the INDEX's start
+-- the items of an INDEX that stands after some bytes and before others; an item past the last is fault Missing at the INDEX's start
 pub record ItemsRead (items : List (List ℕ)) (before after : List ℕ) : Type 0 where
   pub each_item : (i : ℕ) → i < length items →
       item_at (before ++ (index items ++ after)) (length before) i ≡
       got (slice_index_or items i []) (concat (drop (suc i) items) ++ after)
   pub no_item : (i : ℕ) → length items ≤ i →
       item_at (before ++ (index items ++ after)) (length before) i ≡
-      bad 24 (length before) Index
+      bad Missing (length before) Index
 
 -- its count and its offsets fit 32 bits
 abbrev pub IndexReadsBack : Type 0
@@ -91,23 +92,23 @@ pub record ReadBack (k : Content) (r : Root) (bs : List ℕ) : Type 0 where
       outcome (settled_of bs i j) ≡ Ok (settled (get_or (slice_index_or k.composites i []) j d).transform)
   pub each_composite : (i : ℕ) → i < length k.composites → outcome (records_of bs i) ≡ Ok (flat_map component (slice_index_or k.composites i []))
   pub no_component : (i j : ℕ) → i < length k.composites → length (slice_index_or k.composites i []) ≤ j →
-      outcome (component_of bs i j) ≡ Err (fault 24 (r.composites + item_end (map (flat_map component) k.composites) i) Record)
-  pub no_composite : (i j : ℕ) → length k.composites ≤ i → outcome (component_of bs i j) ≡ Err (fault 24 r.composites Index)
+      outcome (component_of bs i j) ≡ Err (fault Missing (r.composites + item_end (map (flat_map component) k.composites) i) Record)
+  pub no_composite : (i j : ℕ) → length k.composites ≤ i → outcome (component_of bs i j) ≡ Err (fault Missing r.composites Index)
   pub each_axis_list : (n : ℕ) → n < length k.axis_lists → outcome (axis_list_of bs n) ≡ Ok (map pos (slice_index_or k.axis_lists n []))
-  pub no_axis_list : (n : ℕ) → length k.axis_lists ≤ n → outcome (axis_list_of bs n) ≡ Err (fault 24 r.axis_lists Index)
+  pub no_axis_list : (n : ℕ) → length k.axis_lists ≤ n → outcome (axis_list_of bs n) ≡ Err (fault Missing r.axis_lists Index)
   pub sentinel : outcome (tuples_of bs 0xFFFFFFFF) ≡ Ok []
   pub each_set : (outer inner : ℕ) (g : Subtable) → SubtableAt k outer g → inner < length g.sets →
       outcome (tuples_of bs (outer * 65536 + inner)) ≡ Ok (set_of g inner)
   pub no_set : (outer inner : ℕ) (g : Subtable) → SubtableAt k outer g → length g.sets ≤ inner → inner < 2 ^ 16 →
-      outcome (tuples_of bs (outer * 65536 + inner)) ≡ Err (fault 24 (sets_place k r.store outer g) Index)
+      outcome (tuples_of bs (outer * 65536 + inner)) ≡ Err (fault Missing (sets_place k r.store outer g) Index)
   pub no_subtable : (outer inner : ℕ) → 0 < length k.subtables → length k.subtables ≤ outer → inner < 2 ^ 16 → outer * 65536 + inner < 0xFFFFFFFF →
-      outcome (tuples_of bs (outer * 65536 + inner)) ≡ Err (fault 24 (r.store + 6) Store)
+      outcome (tuples_of bs (outer * 65536 + inner)) ≡ Err (fault Missing (r.store + 6) Store)
   pub each_region : (n : ℕ) → 0 < length k.subtables → n < length k.regions → outcome (region_of bs n) ≡ Ok (slice_index_or k.regions n [])
   pub no_region : (n : ℕ) → 0 < length k.subtables → length k.regions ≤ n →
-      outcome (region_of bs n) ≡ Err (fault 24 (r.store + list_start (length k.subtables)) Store)
+      outcome (region_of bs n) ≡ Err (fault Missing (r.store + list_start (length k.subtables)) Store)
   pub no_store : length k.subtables ≡ 0 →
-      ((slot : ℕ) → slot < 0xFFFFFFFF → outcome (tuples_of bs slot) ≡ Err (fault 24 8 Table)) ×
-      ((n : ℕ) → outcome (region_of bs n) ≡ Err (fault 24 8 Table))
+      ((slot : ℕ) → slot < 0xFFFFFFFF → outcome (tuples_of bs slot) ≡ Err (fault Missing 8 Table)) ×
+      ((n : ℕ) → outcome (region_of bs n) ≡ Err (fault Missing 8 Table))
 
 -- the root reads back, and coverage and condition list stand where it says; the condition list's offset is 0 where that has no bytes
 pub record PartsStand (coverage conditions : List ℕ) (r : Root) (bs : List ℕ) : Type 0 where

@@ -7,5 +7,6 @@ pub mod Store
 pub mod Table
 pub mod Questions
 pub mod Examples
+pub mod Faults
 pub mod Fits
 pub mod Laws

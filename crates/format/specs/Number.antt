@@ -1,6 +1,7 @@
 -- A variable-length number of up to 32 bits, in one to five bytes (uint32var).
 use Rattle.std.specs.Prelude.{ℕ, suc, ◌+◌, ◌-◌, cond, List, [], ◌∷◌, length, ◌==◌, nat_lt}
 use Rattle.write.specs.Bytes.{be}
+use Rattle.format.specs.declared.FaultKind.TheVariants.{Cut, Wrong}
 use Rattle.format.specs.declared.Layer.TheVariants.{Record}
 use Rattle.format.specs.Reads.{Read, got, bad, more}
 
@@ -20,11 +21,11 @@ number n =
 
 -- Any form, also a longer one: the first byte says how many follow, and none above 0xF0 is a first byte. A fault is at the first byte.
 abbrev pub read_number : ℕ → List ℕ → Read ℕ
-read_number end [] = bad 20 end Record
+read_number end [] = bad Cut end Record
 read_number end (b ∷ bs) =
     let place = end - suc (length bs) in
     cond (nat_lt b 0x80) (got b bs)
     (cond (nat_lt b 0xC0) (more Record place 1 (b - 0x80) bs)
     (cond (nat_lt b 0xE0) (more Record place 2 (b - 0xC0) bs)
     (cond (nat_lt b 0xF0) (more Record place 3 (b - 0xE0) bs)
-    (cond (b == 0xF0) (more Record place 4 0 bs) (bad 22 place Record)))))
+    (cond (b == 0xF0) (more Record place 4 0 bs) (bad Wrong place Record)))))

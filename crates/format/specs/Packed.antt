@@ -4,6 +4,7 @@ use Rattle.std.specs.Int.Signed.{mag}
 use Rattle.std.specs.Int.{w8, w16, w32}
 use Rattle.std.proofs.Common.{to_z}
 use Rattle.write.specs.Bytes.{signed8, signed16, signed32}
+use Rattle.format.specs.declared.FaultKind.TheVariants.{Cut, LongRun}
 use Rattle.format.specs.declared.Width.{Width}
 use Rattle.format.specs.declared.Width.TheVariants.{Zero, One, Two, Four}
 use Rattle.format.specs.declared.Layer.TheVariants.{Values}
@@ -121,7 +122,7 @@ kind (suc (suc (suc n))) = Four
 
 -- a run: its control byte, then its values; cut, the fault is at the control byte
 abbrev pub read_run : ℕ → List ℕ → Read (List ℤ)
-read_run end [] = bad 20 end Values
+read_run end [] = bad Cut end Values
 read_run end (c ∷ bs) = put_at (end - suc (length bs)) (many (read_value end (kind (c / 64))) (c % 64 + 1) bs)
 
 -- all the values, to the end of the bytes, in at most `fuel` runs
@@ -141,7 +142,7 @@ unpack_due end fuel zero bs = got [] bs
 unpack_due end zero (suc d) bs = got [] bs
 unpack_due end (suc fuel) (suc d) bs =
     then (read_run end bs) (λ vs rest.
-    cond (nat_lt (suc d) (length vs)) (bad 23 (end - length bs) Values)
+    cond (nat_lt (suc d) (length vs)) (bad LongRun (end - length bs) Values)
     (then (unpack_due end fuel (suc d - length vs) rest) (λ others rest'. got (vs ++ others) rest')))
 
 -- the same: each run has a value at least, so there are no more runs than values

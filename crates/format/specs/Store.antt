@@ -4,6 +4,7 @@ use Rattle.std.specs.Int.{w16}
 use Rattle.std.proofs.Common.{to_z}
 use Rattle.std.specs.List.{flat_map}
 use Rattle.write.specs.Bytes.{be, signed16}
+use Rattle.format.specs.declared.FaultKind.TheVariants.{Missing, Wrong}
 use Rattle.format.specs.declared.Coordinate.{Coordinate}
 use Rattle.format.specs.declared.Layer.TheVariants.{Store}
 use Rattle.format.specs.Reads.{Read, got, bad, then, put_at, fixed, many, part_offset}
@@ -81,7 +82,7 @@ tuples_in [] packing end = got [] []
 tuples_in (r ∷ rs) packing end =
     let n = suc (length rs) in
     then (unpacked end packing) (λ vs rest.
-    cond (length vs % n == 0) (got (by_region (length vs / n) (r ∷ rs) vs) rest) (bad 22 (end - length packing) Store))
+    cond (length vs % n == 0) (got (by_region (length vs / n) (r ∷ rs) vs) rest) (bad Wrong (end - length packing) Store))
 
 -- delta set `inner` of the subtable that the bytes begin with
 unfoldable pub set_in : ℕ → ℕ → List ℕ → Read (List (ℕ × List ℤ))
@@ -91,13 +92,13 @@ set_in end inner bs =
     (then (fixed Store end 2 r₁) (λ n r₂.
     then (many (fixed Store end 2) n r₂) (λ regions r₃.
     then (item end inner r₃) (λ packing after. tuples_in regions packing (end - length after)))))
-    (bad 22 (end - length bs) Store))
+    (bad Wrong (end - length bs) Store))
 
 -- the head of a store, up to its count of subtables: the region list's offset
 abbrev pub store_head : ℕ → List ℕ → Read ℕ
 store_head end bs =
     then (fixed Store end 2 bs) (λ format rest.
-    cond (format == 1) (part_offset Store end true bs rest) (bad 22 (end - length bs) Store))
+    cond (format == 1) (part_offset Store end true bs rest) (bad Wrong (end - length bs) Store))
 
 -- the offset at place k of an array of 32-bit offsets, counted from the start of the bytes `from`
 abbrev pub part_offset_at : ℕ → ℕ → List ℕ → List ℕ → Read ℕ
@@ -108,7 +109,7 @@ unfoldable pub slot_in : ℕ → ℕ → ℕ → List ℕ → Read (List (ℕ ×
 slot_in end outer inner bs =
     then (store_head end bs) (λ _ r₁.
     then (fixed Store end 2 r₁) (λ n r₂.
-    cond (nat_le n outer) (bad 24 (end - length r₁) Store)
+    cond (nat_le n outer) (bad Missing (end - length r₁) Store)
     (then (part_offset_at end outer bs r₂) (λ o _. set_in end inner (drop o bs)))))
 
 -- a signed number of 16 bits
@@ -127,6 +128,6 @@ read_coordinate end bs =
 unfoldable pub region_in : ℕ → ℕ → List ℕ → Read (List Coordinate)
 region_in end k bs =
     then (fixed Store end 2 bs) (λ n r₁.
-    cond (nat_le n k) (bad 24 (end - length bs) Store)
+    cond (nat_le n k) (bad Missing (end - length bs) Store)
     (then (part_offset_at end k bs r₁) (λ o _.
     then (fixed Store end 2 (drop o bs)) (λ axes r₂. many (read_coordinate end) axes r₂))))

@@ -2,6 +2,7 @@
 use Rattle.std.specs.Prelude.{ℕ, ◌+◌, true, false, cond, List, [], ◌∷◌, map, length, pos, ◌==◌}
 use Rattle.std.specs.List.{flat_map}
 use Rattle.write.specs.Bytes.{be}
+use Rattle.format.specs.declared.FaultKind.TheVariants.{Wrong}
 use Rattle.format.specs.declared.Coordinate.{Coordinate}
 use Rattle.format.specs.declared.Layer.TheVariants.{Table}
 use Rattle.format.specs.Reads.{Read, got, bad, then, fixed, part_offset}
@@ -94,4 +95,4 @@ root bs =
       axis_lists = axis_lists;
       composites = composites;
     }) rest))))))
-    (bad 22 0 Table))
+    (bad Wrong 0 Table))

@@ -2,11 +2,13 @@
 // here, and the laws are the contracts of small functions.
 #![tactic(auto)]
 
+ghost use Rattle.std.specs.Prelude.{◌≡◌};
 ghost use Rattle.format.specs.Examples.{Examples};
+ghost use Rattle.format.specs.Faults.{number};
 ghost use Rattle.format.specs.Laws.{NumbersReadBack, PackedReadsBack, IndexReadsBack, ComponentsReadBack, TableReadsBack, TablesTellApart};
 
 // One axis of a region: where it begins to act, where it acts in full, where it ends (2.14).
-#[derive(Clone, Copy)]
+#[derive(Clone, Copy, PartialEq, Eq, Debug)]
 pub struct Coordinate {
     pub axis: u16,
     pub start: i16,
@@ -15,7 +17,7 @@ pub struct Coordinate {
 }
 
 // How many bytes each value of a run of packed values takes.
-#[derive(Clone, Copy)]
+#[derive(Clone, Copy, PartialEq, Eq, Debug)]
 pub enum Width {
     Zero,
     One,
@@ -24,7 +26,7 @@ pub enum Width {
 }
 
 // The part of a reader that met a fault.
-#[derive(Clone, Copy)]
+#[derive(Clone, Copy, PartialEq, Eq, Debug)]
 pub enum Layer {
     Table,
     Store,
@@ -33,88 +35,87 @@ pub enum Layer {
     Values,
 }
 
-// Why a reader could not read on: the fault's number, its byte place from the table's start, and the layer that met it.
-#[derive(Clone, Copy)]
+// What is at fault, by its number.
+#[derive(Clone, Copy, PartialEq, Eq, Debug)]
+pub enum FaultKind {
+    // Bytes end inside a field.
+    Cut = 20,
+    // An offset points past the table, or is 0 where none may be.
+    Past = 21,
+    // A wrong version, format, offset size, first number byte or INDEX offset, or values that the regions do not divide.
+    Wrong = 22,
+    // A run passes the count due.
+    LongRun = 23,
+    // No such composite, component, axis list, slot or region.
+    Missing = 24,
+}
+
+impl FaultKind {
+    // The fault's number.
+    pub fn number(self) -> u8
+        ensures { result ≡ number self }
+    {
+        self as u8
+    }
+}
+
+// Why a reader could not read on: what is at fault, its byte place from the table's start, and the layer that met it.
+#[derive(Clone, Copy, PartialEq, Eq, Debug)]
 pub struct Fault {
-    pub number: u8,
+    pub kind: FaultKind,
     pub place: usize,
     pub layer: Layer,
 }
 
-// The nine numbers that place a component, each where it is present: translation and centre in font units, rotation and skew in half
-// turns (4.12), scale (6.10).
-#[derive(Clone, Copy)]
-pub struct Transform {
-    pub translate_x: Option<i16>,
-    pub translate_y: Option<i16>,
-    pub rotation: Option<i16>,
-    pub scale_x: Option<i16>,
-    pub scale_y: Option<i16>,
-    pub skew_x: Option<i16>,
-    pub skew_y: Option<i16>,
-    pub center_x: Option<i16>,
-    pub center_y: Option<i16>,
+// The nine numbers that place a component: translation and centre in font units, rotation and skew in half turns (4.12), scale
+// (6.10). A record has each where it is present.
+#[derive(Clone, Copy, PartialEq, Eq, Debug, Default)]
+pub struct Transform<T = Option<i16>> {
+    pub translate_x: T,
+    pub translate_y: T,
+    pub rotation: T,
+    pub scale_x: T,
+    pub scale_y: T,
+    pub skew_x: T,
+    pub skew_y: T,
+    pub center_x: T,
+    pub center_y: T,
 }
 
 // The same nine numbers, settled: what is absent has its default.
-#[derive(Clone, Copy)]
-pub struct SettledTransform {
-    pub translate_x: i16,
-    pub translate_y: i16,
-    pub rotation: i16,
-    pub scale_x: i16,
-    pub scale_y: i16,
-    pub skew_x: i16,
-    pub skew_y: i16,
-    pub center_x: i16,
-    pub center_y: i16,
-}
+pub type SettledTransform = Transform<i16>;
 
 // The worked examples hold.
-pub fn examples_hold() -> u8
+pub fn examples_hold()
     ensures { Examples }
-{
-    0
-}
+{}
 
 // A number reads back, whatever follows it, from its shortest form and from each longer one.
-pub fn numbers_read_back() -> u8
+pub fn numbers_read_back()
     ensures { NumbersReadBack }
-{
-    0
-}
+{}
 
 // Packed values read back: to the end of their bytes, and, whatever follows them, by their count.
-pub fn packed_reads_back() -> u8
+pub fn packed_reads_back()
     ensures { PackedReadsBack }
-{
-    0
-}
+{}
 
 // Each item of an INDEX reads back, wherever it stands in a table; past the last there is none.
-pub fn index_reads_back() -> u8
+pub fn index_reads_back()
     ensures { IndexReadsBack }
-{
-    0
-}
+{}
 
 // A component's record reads back, whatever follows it.
-pub fn components_read_back() -> u8
+pub fn components_read_back()
     ensures { ComponentsReadBack }
-{
-    0
-}
+{}
 
 // Each question about a table's bytes answers what the table was written from.
-pub fn table_reads_back() -> u8
+pub fn table_reads_back()
     ensures { TableReadsBack }
-{
-    0
-}
+{}
 
 // Tables of equal bytes hold the same composites, and the same delta set at each slot.
-pub fn tables_tell_apart() -> u8
+pub fn tables_tell_apart()
     ensures { TablesTellApart }
-{
-    0
-}
+{}
