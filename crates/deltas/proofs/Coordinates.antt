@@ -1,8 +1,10 @@
 -- Regions compared, one coordinate after the other.
-use Rattle.std.proofs.Common.{◌≡◌, ℕ, ◌+◌, ◌-◌, ◌<◌, Bool, true, false, cond, eqb, List, [], ◌∷◌, map, length, get_or, take, drop, Decides, sym, refl, ap, ◌∙◌, arith}
-use Rattle.std.proofs.lemmas.List.{at_drop_more, nil_from_length, take_rest, drop_more, length-map, get_or-map}
-use Rattle.std.proofs.lemmas.Bool.{false≢true, cond-true, cond-false, eqb-true, eq-eqb}
+use Rattle.std.proofs.Common.{ℤ, ◌&&◌, int_eq, ◌≡◌, ℕ, ◌+◌, ◌<◌, Bool, true, false, cond, eqb, List, [], ◌∷◌, map, length, get_or, drop, Decides, sym, refl, ap, ap₂, ◌∙◌, arith}
+use Rattle.std.proofs.lemmas.List.{at_drop_more, length-map, get_or-map}
+use Rattle.std.proofs.lemmas.Bool.{cond-true, cond-false}
+use Rattle.std.proofs.lemmas.Bool.Decides.{Decides-and, Decides-like, Decides-eqb, Decides-int_eq}
 use Rattle.format.specs.declared.Coordinate.{Coordinate}
+use Rattle.keys.specs.Sameness.{joined}
 use Rattle.memory.specs.Lists.{part}
 use Rattle.memory.specs.declared.records.Span.{Span}
 use Rattle.deltas.specs.Regions.{has_peak, kept, held, regions_of}
@@ -19,9 +21,20 @@ module _ (cs : List Coordinate) (i : ℕ) (d : Coordinate) (r : Bool) (l : i < l
   pub kept_skip : r ≡ false → kept (drop i cs) ≡ kept (drop (i + 1) cs)
   kept_skip h = kept_step ∙ cond-false (has_peak (get_or cs i d)) _ _ (sym is ∙ h)
 
--- a region whose first coordinate is this one
-pub begins : (region : List Coordinate) (d c : Coordinate) (r : Bool) → 0 < length region → Decides r (get_or region 0 d ≡ c) → r ≡ true → region ≡ c ∷ take (length region - 1) (drop 1 region)
-begins region d c r some is e = drop_more region 0 d some ∙ ap (λ x. x ∷ drop 1 region) (is.0 e) ∙ ap (λ xs. c ∷ xs) (sym (take_rest region 1))
+-- `==` of two coordinates, as it is derived
+abbrev pub coordinate_eq : Coordinate → Coordinate → Bool
+coordinate_eq a b = eqb a.axis b.axis && (int_eq a.start b.start && (int_eq a.peak b.peak && int_eq a.end b.end))
+
+-- coordinates are the same whose parts are
+parts : (a b : Coordinate) → (a.axis ≡ b.axis) × ((a.start ≡ b.start) × ((a.peak ≡ b.peak) × (a.end ≡ b.end))) → a ≡ b
+parts a b h = joined {B = ℕ × (ℤ × (ℤ × ℤ))} (λ c. (c.axis, (c.start, (c.peak, c.end)))) (λ p. record { axis = p.0; start = p.1.0; peak = p.1.1.0; end = p.1.1.1 }) (λ c. refl) a b
+    (ap₂ (λ x y. (x, y)) h.0 (ap₂ (λ x y. (x, y)) h.1.0 (ap₂ (λ x y. (x, y)) h.1.1.0 h.1.1.1)))
+
+-- it says whether they are the same
+pub coordinate_eq-Decides : (a b : Coordinate) → Decides (coordinate_eq a b) (a ≡ b)
+coordinate_eq-Decides a b =
+    Decides-like (coordinate_eq a b) (λ h. parts a b (h.0, (h.1.0, (h.1.1.0, h.1.1.1)))) (λ e. (ap (λ c. c.axis) e, (ap (λ c. c.start) e, (ap (λ c. c.peak) e, ap (λ c. c.end) e))))
+    (Decides-and _ _ (Decides-eqb a.axis b.axis) (Decides-and _ _ (Decides-int_eq a.start b.start) (Decides-and _ _ (Decides-int_eq a.peak b.peak) (Decides-int_eq a.end b.end))))
 
 -- a held region, by its number
 pub held_at : (cs : List Coordinate) (rs : List Span) (i : ℕ) (r : Span) (k : HeldRegion) → i < length rs → k.coordinates.now ≡ part (get_or rs i r) cs → k.coordinates.now ≡ (get_or (map held (regions_of cs rs)) i k).coordinates.now
@@ -33,24 +46,3 @@ held_at cs rs i r k l e =
 pub held-means : (rs : List (List Coordinate)) → map (λ k. k.coordinates.now) (map held rs) ≡ rs
 held-means [] = refl
 held-means (r ∷ rs) = ap (λ xs. r ∷ xs) (held-means rs)
-
--- A region agrees with the coordinates that are left exactly where the whole does.
-pub record Agree (rest left known whole : List Coordinate) : Type 0 where
-  pub there : rest ≡ left → known ≡ whole
-  pub back : known ≡ whole → rest ≡ left
-
-module _ (rest left known whole : List Coordinate) (agree : Agree rest left known whole) where
-  pub agree_skips : (more : List Coordinate) → left ≡ more → Agree rest more known whole
-  agree_skips more e = record { there = λ h. agree.there (h ∙ sym e); back = λ h. agree.back h ∙ e }
-
-  module _ (c : Coordinate) (later : List Coordinate) (next : left ≡ c ∷ later) where
-    pub agree_stops : ((more : List Coordinate) → rest ≡ c ∷ more → ⊥) → Decides false (known ≡ whole)
-    agree_stops other = ((λ e. absurd (false≢true e)), λ h. absurd (other later (agree.back h ∙ next)))
-
-    pub agree_goes : (more : List Coordinate) → rest ≡ c ∷ more → Agree more later known whole
-    agree_goes more e =
-        record { there = λ h. agree.there (e ∙ ap (λ xs. c ∷ xs) h ∙ sym next); back = λ h. ap (drop 1) (sym e ∙ agree.back h ∙ next) }
-
-  pub agree_ends : (r : Bool) → r ≡ eqb (length rest) 0 → left ≡ [] → Decides r (known ≡ whole)
-  agree_ends r is e =
-      ((λ h. agree.there (nil_from_length rest (eqb-true (length rest) 0 (sym is ∙ h)) ∙ sym e)), λ h. is ∙ eq-eqb (length rest) 0 (ap length (agree.back h ∙ e)))

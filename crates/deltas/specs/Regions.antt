@@ -1,6 +1,5 @@
 -- Regions, as they are handed in and as a job holds them.
-use Rattle.std.specs.Prelude.{◌≡◌, Bool, not, List, ◌∷◌, map, pos, Some, None, filter, Option, ◌≢◌, refl}
-use Rattle.std.specs.Borrow.{Bor}
+use Rattle.std.specs.Prelude.{Bool, not, List, map, pos, filter, refl}
 use Rattle.format.specs.declared.Coordinate.{Coordinate}
 use Rattle.keys.specs.Lent.{lent}
 use Rattle.keys.specs.Sameness.{Sameness, numbers, integers, same_integer, pairs, lists, by_parts}
@@ -15,11 +14,6 @@ has_peak c = not (same_integer c.peak (pos 0))
 -- The region of coordinates that are handed in: zero peaks are dropped.
 abbrev pub kept : List Coordinate → List Coordinate
 kept = filter has_peak
-
--- The region begins with this coordinate, and more follows; or it does not.
-abbrev pub GoesOn : List Coordinate → Coordinate → Option (Bor (List Coordinate)) → Type 0
-GoesOn region c (Some more) = region ≡ c ∷ more.now
-GoesOn region c None = (more : List Coordinate) → region ≢ c ∷ more
 
 -- Coordinates are the same where axis, start, peak and end are.
 abbrev pub coordinate_sameness : Sameness Coordinate

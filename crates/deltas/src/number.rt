@@ -18,7 +18,7 @@ impl Number for i16 {
     ghost widened = { λ z. z };
 
     fn widen(&self) -> i32 {
-        *self as i32
+        i32::from(*self)
     }
 }
 
@@ -34,6 +34,6 @@ impl Number for F2Dot14 {
     ghost widened = { λ x. x.0 };
 
     fn widen(&self) -> i32 {
-        self.0 as i32
+        i32::from(self.0)
     }
 }

@@ -5,7 +5,6 @@ ghost use Rattle.deltas.specs.Parts.{AddUp, Level, Ascends, axes_total, tuple_le
 
 use format::Coordinate;
 use keys::numbers_ascend;
-use memory::fit::each::{Test, all_pass};
 
 // One region and its tuple: so many of the coordinates, and so many of the values.
 #[derive(Clone, Copy)]
@@ -37,34 +36,15 @@ pub fn add_up(parts: &[Part], axes: usize, values: usize) -> bool
 pub fn tuple_len(parts: &[Part]) -> u32
     ensures { result ≡ first_len parts.now }
 {
-    if parts.is_empty() { 0 } else { parts[0].values }
-}
-
-#[derive(Clone, Copy)]
-struct LengthTest {
-    tuple_len: u32,
-}
-
-impl Test for LengthTest {
-    type Record = Part;
-
-    ghost Passes = { λ t p. p.values ≡ t.tuple_len };
-
-    fn passes(&self, x: &Part) -> bool {
-        x.values == self.tuple_len
-    }
+    parts.first().map_or(0, |p| p.values)
 }
 
 // Whether all parts have as many values.
 pub fn level(parts: &[Part]) -> bool
     ensures { Decides result (Level parts.now) }
 {
-    all_pass(
-        &LengthTest {
-            tuple_len: tuple_len(parts),
-        },
-        parts,
-    )
+    let tuple_len = tuple_len(parts);
+    parts.iter().all(|p| p.values == tuple_len)
 }
 
 // Whether the axis numbers of each part strictly ascend.

@@ -3,7 +3,7 @@ ghost use Rattle.std.specs.Prelude.{◌≡◌, ◌+◌, ◌≤◌, List, ◌++�
 ghost use Rattle.format.specs.declared.Coordinate.{Coordinate};
 ghost use Rattle.keys.specs.Places.{place};
 ghost use Rattle.memory.specs.Lists.{part};
-ghost use Rattle.deltas.specs.Regions.{has_peak, kept, GoesOn, region_sameness, held, regions_of};
+ghost use Rattle.deltas.specs.Regions.{has_peak, kept, region_sameness, held, regions_of};
 
 use format::Coordinate;
 use keys::{Bank, Key, Sought, find};
@@ -23,6 +23,7 @@ pub fn put_kept(list: &mut [Coordinate], filled: usize, from: &[Coordinate]) -> 
     ensures count { result ≡ filled + length (kept from.now) }
     ensures after { take result list.new ≡ take filled list.old ++ kept from.now }
 {
+    // What is counted is the answer, how many are filled; with `enumerate` the last count would be carried out of the loop by hand.
     let mut end = filled;
     for c in from {
         if !peaks(c) {
@@ -34,54 +35,11 @@ pub fn put_kept(list: &mut [Coordinate], filled: usize, from: &[Coordinate]) -> 
     end
 }
 
-fn same_coordinate(a: &Coordinate, b: &Coordinate) -> bool
-    ensures { Decides result (a.now ≡ b.now) }
-{
-    a.axis == b.axis && a.start == b.start && a.peak == b.peak && a.end == b.end
-}
-
-// What follows a region's first coordinate, where that is this one.
-fn after_first<'a>(region: &'a [Coordinate], c: &Coordinate) -> Option<&'a [Coordinate]>
-    ensures { GoesOn region.now c.now result }
-{
-    if region.is_empty() {
-        return None;
-    }
-    if !same_coordinate(&region[0], c) {
-        return None;
-    }
-    Some(&region[1..])
-}
-
-// Whether two held regions are the same.
-fn same_held(known: &[Coordinate], other: &[Coordinate]) -> bool
-    ensures { Decides result (known.now ≡ other.now) }
-{
-    let mut rest = known;
-    for c in other {
-        let Some(more) = after_first(rest, c) else {
-            return false;
-        };
-        rest = more;
-    }
-    rest.is_empty()
-}
-
 // Whether a held region is that of these coordinates, zero peaks dropped.
 fn same_kept(known: &[Coordinate], given: &[Coordinate]) -> bool
     ensures { Decides result (known.now ≡ kept given.now) }
 {
-    let mut rest = known;
-    for c in given {
-        if !peaks(c) {
-            continue;
-        }
-        let Some(more) = after_first(rest, c) else {
-            return false;
-        };
-        rest = more;
-    }
-    rest.is_empty()
+    known.iter().eq(given.iter().filter(|c| peaks(c)))
 }
 
 // A region that the job holds: the coordinates as they stand.
@@ -98,7 +56,7 @@ impl<'a> Key for HeldRegion<'a> {
     ghost sameness = { region_sameness };
 
     fn same(&self, other: &HeldRegion<'a>) -> bool {
-        same_held(self.coordinates, other.coordinates)
+        self.coordinates == other.coordinates
     }
 }
 
@@ -139,19 +97,11 @@ impl<'a> Bank for HeldRegions<'a> {
     }
 }
 
-// The first place of the region that is handed in, among those that the job holds.
-pub fn find_region<'a>(
-    coordinates: &'a [Coordinate],
-    regions: &'a [Span],
-    given: &[Coordinate],
-) -> Option<usize>
-    ensures { result ≡ place region_sameness (regions_of coordinates.now regions.now) (kept given.now) }
-{
-    find(
-        &HeldRegions {
-            coordinates,
-            regions,
-        },
-        &GivenRegion { coordinates: given },
-    )
+impl HeldRegions<'_> {
+    // The first place of the region that is handed in, among those that the job holds.
+    pub fn find(&self, given: &[Coordinate]) -> Option<usize>
+        ensures { result ≡ place region_sameness (regions_of self.now.coordinates.now self.now.regions.now) (kept given.now) }
+    {
+        find(self, &GivenRegion { coordinates: given })
+    }
 }
