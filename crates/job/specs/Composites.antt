@@ -1,5 +1,5 @@
 -- Composites: begun, given components, closed or cancelled.
-use Rattle.std.specs.Prelude.{◌≡◌, ℕ, ◌+◌, ◌-◌, ◌≤◌, Bool, true, List, [], ◌∷◌, ◌++◌, map, length, take, is_some, IfSome, Some, None, Option, Result}
+use Rattle.std.specs.Prelude.{◌≡◌, ℕ, ◌+◌, ◌-◌, ◌≤◌, Bool, true, List, [], ◌∷◌, ◌++◌, map, length, take, is_some, IfSome, ℤ, Some, None, Option, Result}
 use Rattle.std.specs.Option.{option_map}
 use Rattle.std.specs.List.{AllByRecursion}
 use Rattle.format.specs.declared.Transform.{Transform}
@@ -95,7 +95,7 @@ pub record Given : Type 0 where
   pub axes : Option (List Pair)
   pub axis_values_var : Option TemporaryDeltaSetId
   pub transform_var : Option TemporaryDeltaSetId
-  pub transform : Transform
+  pub transform : Transform (Option ℤ)
 
 abbrev pub given : VarComponent → Given
 given c = record {
@@ -212,6 +212,16 @@ pub record BelowMark (h : Lists) (m : Mark) : Type 0 where
 
 abbrev pub Below : State → Type 0
 Below s = IfSome s.job.mark (BelowMark s.held)
+
+-- From a job and its lists to those after a call: a job that fits still does, and what is closed still lies below the mark.
+pub record Keeps (j : Job) (l : Lists) (j' : Job) (l' : Lists) : Type 0 where
+  pub fits : JobFits j l → JobFits j' l'
+  pub below : Below (state j l) → Below (state j' l')
+
+-- the same, where a job that fits is kept only with what is closed below the mark: a call may take the open composite away
+pub record KeepsBelow (j : Job) (l : Lists) (j' : Job) (l' : Lists) : Type 0 where
+  pub fits : JobFits j l → Below (state j l) → JobFits j' l'
+  pub below : Below (state j l) → Below (state j' l')
 
 -- what each call answers and leaves
 

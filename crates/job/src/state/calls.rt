@@ -1,10 +1,10 @@
 // The calls on composites: each tests the memory, then its own checks in their order, then does its work.
-ghost use Rattle.std.specs.Prelude.{◌≡◌, ◌+◌, ◌^◌, ◌<◌, ◌≤◌, ◌++◌, map, length, take, Some, Decides, MatchOption};
+ghost use Rattle.std.specs.Prelude.{◌≡◌, ◌+◌, ◌^◌, ◌<◌, ◌≤◌, ◌++◌, map, length, take, Some, Decides, MatchOption, MatchResult};
 ghost use Rattle.std.specs.Option.{option_map};
 ghost use Rattle.keys.specs.Numbers.{AscendingNumbers};
 ghost use Rattle.memory.specs.Lists.{Lists, lists};
-ghost use Rattle.job.specs.Composites.{fresh, token as token_of, begun, given, listed, spanned, Opens, IdsKnown, ComponentRoom, added, closed, Below, Begins, AddsComponent, Closes, Cancels};
-ghost use Rattle.job.specs.Outcome.{JobFits, Room, state};
+ghost use Rattle.job.specs.Composites.{fresh, token as token_of, begun, given, listed, spanned, Opens, IdsKnown, ComponentRoom, added, closed, spend_checks, Below, Keeps, KeepsBelow, Begins, AddsComponent, Closes, Cancels};
+ghost use Rattle.job.specs.Outcome.{FirstOf, NoneOf, JobFits, Room, state};
 
 use crate::state::{Job, Kept, OpenComposite, VarComponent};
 use keys::numbers_ascend;
@@ -55,10 +55,9 @@ impl Job {
     // Begins a composite. The token must be spent by `close` or `cancel`.
     pub fn begin(&mut self, mem: &mut Memory<'_>) -> Result<OpenComposite, Refusal>
         ensures outcome { Begins self.old (lists mem.old) result (state self.new (lists mem.new)) }
-        ensures kept { JobFits self.old (lists mem.old) → JobFits self.new (lists mem.new) }
-        ensures below { Below (state self.old (lists mem.old)) → Below (state self.new (lists mem.new)) }
+        ensures keeps { Keeps self.old (lists mem.old) self.new (lists mem.new) }
     {
-        if !fits(&self.counts, self.mark, mem) {
+        if !self.fits_in(mem) {
             return Err(Refusal::Memory);
         }
         if !has_room(1, self.counts.composites, mem.composites.len()) {
@@ -67,7 +66,7 @@ impl Job {
         if self.mark.is_some() {
             return Err(Refusal::IsOpen);
         }
-        Ok(put_begun(self, mem))
+        Ok(self.put_begun(mem))
     }
 
     // Adds a component to the open composite.
@@ -78,17 +77,16 @@ impl Job {
         component: VarComponent<'_>,
     ) -> Result<(), Refusal>
         ensures outcome { AddsComponent self.old (lists mem.old) token.now (given component.entry) result (state self.new (lists mem.new)) }
-        ensures kept { JobFits self.old (lists mem.old) → JobFits self.new (lists mem.new) }
-        ensures below { Below (state self.old (lists mem.old)) → Below (state self.new (lists mem.new)) }
+        ensures keeps { Keeps self.old (lists mem.old) self.new (lists mem.new) }
     {
-        if !fits(&self.counts, self.mark, mem) {
+        if !self.fits_in(mem) {
             return Err(Refusal::Memory);
         }
         let new = pairs_of(component.axes);
         if !numbers_ascend(new) {
             return Err(Refusal::AxisOrder);
         }
-        if !has_component_room(new.len(), &self.counts, mem) {
+        if !self.has_component_room(mem, new.len()) {
             return Err(Refusal::NoRoom);
         }
         if component.gid > 0xFFFFFF {
@@ -97,85 +95,154 @@ impl Job {
         if !ids_known(&component, self.counts.sets as usize) {
             return Err(Refusal::UnknownId);
         }
-        if opened(self, token).is_none() {
-            return Err(Refusal::NotOpen);
-        }
-        put_component(self, mem, component);
+        self.opened(token).ok_or(Refusal::NotOpen)?;
+        self.put_component(mem, component);
         Ok(())
     }
 
     // Closes the open composite: it is now the last of the closed ones.
     pub fn close(&mut self, mem: &mut Memory<'_>, token: OpenComposite) -> Result<(), Kept>
         ensures outcome { Closes self.old (lists mem.old) token result (state self.new (lists mem.new)) }
-        ensures kept { JobFits self.old (lists mem.old) → JobFits self.new (lists mem.new) }
-        ensures below { Below (state self.old (lists mem.old)) → Below (state self.new (lists mem.new)) }
+        ensures keeps { Keeps self.old (lists mem.old) self.new (lists mem.new) }
     {
-        if !fits(&self.counts, self.mark, mem) {
-            return Err(Kept {
-                token,
-                refusal: Refusal::Memory,
-            });
+        match self.spendable(mem, &token) {
+            Ok(begun) => {
+                token.spend();
+                self.put_closed(mem, begun);
+                Ok(())
+            }
+            Err(refusal) => Err(Kept { token, refusal }),
         }
-        let Some(m) = opened(self, &token) else {
-            return Err(Kept {
-                token,
-                refusal: Refusal::NotOpen,
-            });
-        };
-        spend(token);
-        put_closed(self, mem, m);
-        Ok(())
     }
 
     // Cancels the open composite: its components and pairs are free again; regions and sets stay.
     pub fn cancel(&mut self, mem: &Memory<'_>, token: OpenComposite) -> Result<(), Kept>
         ensures outcome { Cancels self.old (lists mem.now) token result (state self.new (lists mem.now)) }
-        ensures kept { JobFits self.old (lists mem.now) → Below (state self.old (lists mem.now)) → JobFits self.new (lists mem.now) }
-        ensures below { Below (state self.old (lists mem.now)) → Below (state self.new (lists mem.now)) }
+        ensures keeps { KeepsBelow self.old (lists mem.now) self.new (lists mem.now) }
     {
-        if !fits(&self.counts, self.mark, mem) {
-            return Err(Kept {
-                token,
-                refusal: Refusal::Memory,
-            });
+        match self.spendable(mem, &token) {
+            Ok(begun) => {
+                token.spend();
+                self.counts.composites -= 1;
+                self.counts.components = begun.components;
+                self.counts.pairs = begun.pairs;
+                self.mark = None;
+                Ok(())
+            }
+            Err(refusal) => Err(Kept { token, refusal }),
         }
-        let Some(m) = opened(self, &token) else {
-            return Err(Kept {
-                token,
-                refusal: Refusal::NotOpen,
-            });
+    }
+
+    // Whether the filled records fit together and lie within the memory.
+    fn fits_in(&self, mem: &Memory<'_>) -> bool
+        ensures { Decides result (JobFits self.now (lists mem.now)) }
+    {
+        fits(&self.counts, self.mark, mem)
+    }
+
+    // Where the composite was begun that is open and that the token is of.
+    fn opened(&self, token: &OpenComposite) -> Option<Mark>
+        ensures { MatchOption result (Opens self.now token.now → ⊥) (λ m. Opens self.now token.now × (self.now.mark ≡ Some m)) }
+    {
+        if token.job != self.number || token.composite as u64 + 1 != self.counts.composites as u64 {
+            return None;
+        }
+        self.mark
+    }
+
+    // Where the composite was begun that this token can close or cancel, or why it can't.
+    fn spendable(&self, mem: &Memory<'_>, token: &OpenComposite) -> Result<Mark, Refusal>
+        ensures { MatchResult result (λ m. NoneOf (spend_checks self.now (lists mem.now) token.now) × (self.now.mark ≡ Some m)) (FirstOf (spend_checks self.now (lists mem.now) token.now)) }
+    {
+        if !self.fits_in(mem) {
+            return Err(Refusal::Memory);
+        }
+        self.opened(token).ok_or(Refusal::NotOpen)
+    }
+
+    fn has_component_room(&self, mem: &Memory<'_>, pairs: usize) -> bool
+        ensures { Decides result (ComponentRoom pairs self.now.counts (lists mem.now)) }
+    {
+        has_room(1, self.counts.components, mem.components.len())
+            && has_room(pairs, self.counts.pairs, mem.pairs.len())
+    }
+
+    // Fills the next composite record and marks it as open.
+    fn put_begun(&mut self, mem: &mut Memory<'_>) -> OpenComposite
+        requires fits { JobFits self.old (lists mem.old) }
+        requires room { Room 1 self.old.counts.composites (length mem.old.composites.now) }
+        ensures answer { result ≡ token_of self.old }
+        ensures leaves { state self.new (lists mem.new) ≡ begun (state self.old (lists mem.old)) }
+        ensures kept { JobFits self.new (lists mem.new) }
+        ensures below { Below (state self.new (lists mem.new)) }
+    {
+        let at = self.counts.composites;
+        mem.composites[at as usize] = Span {
+            place: self.counts.components,
+            count: 0,
         };
-        spend(token);
-        self.counts.composites -= 1;
-        self.counts.components = m.components;
-        self.counts.pairs = m.pairs;
+        self.counts.composites = at + 1;
+        self.mark = Some(Mark {
+            components: self.counts.components,
+            pairs: self.counts.pairs,
+        });
+        OpenComposite {
+            job: self.number,
+            composite: at,
+        }
+    }
+
+    // Appends the pairs and the component's record.
+    fn put_component(&mut self, mem: &mut Memory<'_>, component: VarComponent<'_>)
+        requires fits { JobFits self.old (lists mem.old) }
+        requires order { AscendingNumbers (map (λ p. p.axis) (listed (given component).axes)) }
+        requires room { ComponentRoom (length (listed (given component).axes)) self.old.counts (lists mem.old) }
+        requires gid { component.gid ≤ 0xFFFFFF }
+        requires ids { IdsKnown self.old.counts.sets (given component) }
+        ensures leaves { state self.new (lists mem.new) ≡ added (given component.entry) (state self.old (lists mem.old)) }
+        ensures kept { JobFits self.new (lists mem.new) }
+        ensures below { Below (state self.old (lists mem.old)) → Below (state self.new (lists mem.new)) }
+    {
+        let new = pairs_of(component.axes);
+        let at = self.counts.pairs;
+        append(mem.pairs, at as usize, new);
+        let axes = spanning(at, component.axes);
+        mem.components[self.counts.components as usize] = Component {
+            reset_unspecified_axes: component.reset_unspecified_axes,
+            gid: component.gid,
+            condition: component.condition,
+            axes,
+            axis_values_var: component.axis_values_var,
+            transform_var: component.transform_var,
+            transform: component.transform,
+        };
+        self.counts.pairs = at + new.len() as u32;
+        self.counts.components += 1;
+    }
+
+    // Enters place and count of the composite, which is open no more.
+    fn put_closed(&mut self, mem: &mut Memory<'_>, begun: Mark)
+        requires fits { JobFits self.old (lists mem.old) }
+        requires mark { self.old.mark ≡ Some begun }
+        ensures leaves { state self.new (lists mem.new) ≡ closed (state self.old (lists mem.old)) }
+        ensures kept { JobFits self.new (lists mem.new) }
+        ensures below { Below (state self.new (lists mem.new)) }
+    {
+        let count = self.counts.components - begun.components;
+        mem.composites[self.counts.composites as usize - 1] = Span {
+            place: begun.components,
+            count,
+        };
         self.mark = None;
-        Ok(())
     }
 }
 
-// Fills the next composite record and marks it as open.
-fn put_begun(job: &mut Job, mem: &mut Memory<'_>) -> OpenComposite
-    requires fits { JobFits job.old (lists mem.old) }
-    requires room { Room 1 job.old.counts.composites (length mem.old.composites.now) }
-    ensures answer { result ≡ token_of job.old }
-    ensures leaves { state job.new (lists mem.new) ≡ begun (state job.old (lists mem.old)) }
-    ensures kept { JobFits job.new (lists mem.new) }
-    ensures below { Below (state job.new (lists mem.new)) }
-{
-    let at = job.counts.composites;
-    mem.composites[at as usize] = Span {
-        place: job.counts.components,
-        count: 0,
-    };
-    job.counts.composites = at + 1;
-    job.mark = Some(Mark {
-        components: job.counts.components,
-        pairs: job.counts.pairs,
-    });
-    OpenComposite {
-        job: job.number,
-        composite: at,
+impl OpenComposite {
+    fn spend(self) {
+        let OpenComposite {
+            job: _,
+            composite: _,
+        } = self;
     }
 }
 
@@ -183,20 +250,7 @@ fn put_begun(job: &mut Job, mem: &mut Memory<'_>) -> OpenComposite
 fn pairs_of<'a>(axes: Option<&'a [Pair]>) -> &'a [Pair]
     ensures { result.now ≡ listed (option_map (λ x. x.now) axes.entry) }
 {
-    match axes {
-        None => &[],
-        Some(pairs) => pairs,
-    }
-}
-
-// Where the composite was begun that is open and that the token is of.
-fn opened(job: &Job, token: &OpenComposite) -> Option<Mark>
-    ensures { MatchOption result (Opens job.now token.now → ⊥) (λ m. Opens job.now token.now × (job.now.mark ≡ Some m)) }
-{
-    if token.job != job.number || token.composite as u64 + 1 != job.counts.composites as u64 {
-        return None;
-    }
-    job.mark
+    axes.unwrap_or(&[])
 }
 
 fn ids_known(component: &VarComponent<'_>, sets: usize) -> bool
@@ -213,24 +267,15 @@ fn has_room(n: usize, filled: u32, size: usize) -> bool
     need <= size as u128 && need <= MOST as u128
 }
 
-fn has_component_room(more: usize, n: &Counts, mem: &Memory<'_>) -> bool
-    ensures { Decides result (ComponentRoom more n.now (lists mem.now)) }
-{
-    has_room(1, n.components, mem.components.len()) && has_room(more, n.pairs, mem.pairs.len())
-}
-
 // Where pairs will stand.
 fn spanning(at: u32, axes: Option<&[Pair]>) -> Option<Span>
     requires { length (listed (option_map (λ x. x.now) axes)) < 2 ^ 32 }
     ensures { result ≡ spanned at (option_map (λ x. x.now) axes.entry) }
 {
-    match axes {
-        None => None,
-        Some(pairs) => Some(Span {
-            place: at,
-            count: pairs.len() as u32,
-        }),
-    }
+    axes.map(|pairs| Span {
+        place: at,
+        count: pairs.len() as u32,
+    })
 }
 
 // Writes records behind the filled ones.
@@ -240,55 +285,4 @@ fn append<T: Copy>(list: &mut [T], at: usize, new: &[T])
 {
     let end = at + new.len();
     list[at..end].copy_from_slice(new);
-}
-
-// Appends the pairs and the component's record.
-fn put_component(job: &mut Job, mem: &mut Memory<'_>, component: VarComponent<'_>)
-    requires fits { JobFits job.old (lists mem.old) }
-    requires order { AscendingNumbers (map (λ p. p.axis) (listed (given component).axes)) }
-    requires room { ComponentRoom (length (listed (given component).axes)) job.old.counts (lists mem.old) }
-    requires gid { component.gid ≤ 0xFFFFFF }
-    requires ids { IdsKnown job.old.counts.sets (given component) }
-    ensures leaves { state job.new (lists mem.new) ≡ added (given component.entry) (state job.old (lists mem.old)) }
-    ensures kept { JobFits job.new (lists mem.new) }
-    ensures below { Below (state job.old (lists mem.old)) → Below (state job.new (lists mem.new)) }
-{
-    let new = pairs_of(component.axes);
-    let at = job.counts.pairs;
-    append(mem.pairs, at as usize, new);
-    let axes = spanning(at, component.axes);
-    mem.components[job.counts.components as usize] = Component {
-        reset_unspecified_axes: component.reset_unspecified_axes,
-        gid: component.gid,
-        condition: component.condition,
-        axes,
-        axis_values_var: component.axis_values_var,
-        transform_var: component.transform_var,
-        transform: component.transform,
-    };
-    job.counts.pairs = at + new.len() as u32;
-    job.counts.components += 1;
-}
-
-fn spend(token: OpenComposite) {
-    let OpenComposite {
-        job: _,
-        composite: _,
-    } = token;
-}
-
-// Enters place and count of the composite, which is open no more.
-fn put_closed(job: &mut Job, mem: &mut Memory<'_>, m: Mark)
-    requires fits { JobFits job.old (lists mem.old) }
-    requires mark { job.old.mark ≡ Some m }
-    ensures leaves { state job.new (lists mem.new) ≡ closed (state job.old (lists mem.old)) }
-    ensures kept { JobFits job.new (lists mem.new) }
-    ensures below { Below (state job.new (lists mem.new)) }
-{
-    let count = job.counts.components - m.components;
-    mem.composites[job.counts.composites as usize - 1] = Span {
-        place: m.components,
-        count,
-    };
-    job.mark = None;
 }

@@ -4,12 +4,12 @@ use Rattle.job.specs.Composites.{given, Below}
 use Rattle.job.proofs.Stays.{added_sound, added_below}
 use Rattle.job.proofs.Moves.{component_leaves}
 use Rattle.job.proofs.Still.{still_fits}
-use Rattle.job.proofs.state.calls.put_component.Goals as goal
+use Rattle.job.proofs.state.Job.put_component.Goals as goal
 
 pub returns : goal.returns
 returns c =
     let g = given c.args.component in
-    let j = c.args.job.now in
+    let j = c.args.self.now in
     let fits = c.requires.fits in
     let room = c.requires.room in
     let leaves =

@@ -4,11 +4,11 @@ use Rattle.job.proofs.Stays.{begun_sound, begun_below}
 use Rattle.job.specs.Composites.{Below}
 use Rattle.job.proofs.Moves.{begin_leaves}
 use Rattle.job.proofs.Still.{still_fits}
-use Rattle.job.proofs.state.calls.put_begun.Goals as goal
+use Rattle.job.proofs.state.Job.put_begun.Goals as goal
 
 pub returns : goal.returns
 returns c =
-    let j = c.args.job.now in
+    let j = c.args.self.now in
     let fits = c.requires.fits in
     let leaves = begin_leaves j _ fits c.requires.room in
     record {

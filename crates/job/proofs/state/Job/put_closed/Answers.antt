@@ -3,11 +3,11 @@ use Rattle.std.proofs.lemmas.List.{length-set}
 use Rattle.job.proofs.Stays.{SoundState, closed_sound}
 use Rattle.job.proofs.Moves.{close_leaves}
 use Rattle.job.proofs.Still.{still_fits}
-use Rattle.job.proofs.state.calls.put_closed.Goals as goal
+use Rattle.job.proofs.state.Job.put_closed.Goals as goal
 
 pub returns : goal.returns
 returns c =
-    let j = c.args.job.now in
+    let j = c.args.self.now in
     let fits = c.requires.fits in
     let leaves = close_leaves j _ fits _ c.requires.mark in
     record {
