@@ -7,21 +7,18 @@ use Rattle.job.specs.Outcome.{State}
 use Rattle.job.specs.declared.state.Job.{Job}
 use Rattle.job.specs.declared.state.Kept.{Kept}
 use Rattle.job.specs.declared.state.OpenComposite.{OpenComposite}
-use Rattle.run.specs.declared.step.Answer.{Answer}
-use Rattle.run.specs.declared.step.Answer.TheVariants.{Done, Refused}
 use Rattle.run.specs.declared.step.OnOpen.{OnOpen}
 use Rattle.run.specs.declared.step.OnOpen.TheVariants.{Component, Close, Cancel}
 use Rattle.run.specs.declared.step.Step.{Step}
 
--- a component's answer; the token is kept
-abbrev pub shown : {X : Type 0} → OpenComposite → Result X Refusal → Step
-shown t (Ok _) = record { answer = Done; «open» = Some t }
-shown t (Err why) = record { answer = Refused why; «open» = Some t }
+-- after a call that looks at the token: it is kept
+abbrev pub shown : OpenComposite → Result (Unit {0}) Refusal → Step
+shown t r = record { answer = r; «open» = Some t }
 
--- the answer where a token is spent, or handed back
-abbrev pub spent : {X : Type 0} → Result X Kept → Step
-spent (Ok _) = record { answer = Done; «open» = None }
-spent (Err k) = record { answer = Refused k.refusal; «open» = Some k.token }
+-- after a call that spends the token, or hands it back
+abbrev pub spent : Result (Unit {0}) Kept → Step
+spent (Ok _) = record { answer = Ok tt; «open» = None }
+spent (Err k) = shown k.token (Err k.refusal)
 
 -- a call on the open composite that shows a token
 abbrev pub OnOpenSteps : Job → Lists → OpenComposite → OnOpen → Step → State → Type 0
@@ -30,6 +27,6 @@ OnOpenSteps j l t Close s after = (r : Result (Unit {0}) Kept) × Closes j l t r
 OnOpenSteps j l t Cancel s after = (r : Result (Unit {0}) Kept) × Cancels j l t r after × (s ≡ spent r)
 
 -- a call on the open composite that shows the token of another job's, and is answered with it in hand
-abbrev pub ShowsAnother : Job → Lists → OnOpen → Answer → State → Type 0
+abbrev pub ShowsAnother : Job → Lists → OnOpen → Result (Unit {0}) Refusal → State → Type 0
 ShowsAnother j l call a after =
     (t : OpenComposite) × (t.job ≢ j.number) × OnOpenSteps j l t call (record { answer = a; «open» = Some t }) after

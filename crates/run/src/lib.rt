@@ -3,4 +3,4 @@
 
 pub mod step;
 
-pub use step::{Answer, OnOpen, Step};
+pub use step::{OnOpen, Step};

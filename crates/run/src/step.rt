@@ -1,20 +1,12 @@
 // One call of a run.
 ghost use Rattle.std.specs.Prelude.{◌≡◌, Some};
 ghost use Rattle.memory.specs.Lists.{lists};
-ghost use Rattle.job.specs.Composites.{Opens, Below, given};
+ghost use Rattle.job.specs.Composites.{Opens, Below, KeepsBelow, given};
 ghost use Rattle.job.specs.Outcome.{JobFits, state};
-ghost use Rattle.run.specs.Steps.{OnOpenSteps, ShowsAnother};
+ghost use Rattle.run.specs.Steps.{shown, spent, OnOpenSteps, ShowsAnother};
 
 use job::{Job, Kept, OpenComposite, VarComponent};
-use memory::{Memory, Refusal, Span, TemporaryDeltaSetId};
-
-// What a call was answered.
-#[derive(Clone, Copy)]
-pub enum Answer {
-    Id(TemporaryDeltaSetId),
-    Done,
-    Refused(Refusal),
-}
+use memory::{Memory, Refusal, Span};
 
 // A call on the open composite.
 #[derive(Clone, Copy)]
@@ -24,64 +16,57 @@ pub enum OnOpen<'a> {
     Cancel,
 }
 
-// The answer, and the token that is held afterwards, if any.
+// What a call was answered, and the token that is held afterwards, if any.
 pub struct Step {
-    pub answer: Answer,
+    pub answer: Result<(), Refusal>,
     pub open: Option<OpenComposite>,
+}
+
+impl Step {
+    // After a call that looks at the token.
+    fn shown(token: OpenComposite, answer: Result<(), Refusal>) -> Step
+        ensures { result ≡ shown token answer }
+    {
+        Step {
+            answer,
+            open: Some(token),
+        }
+    }
+
+    // After a call that spends the token, or hands it back.
+    fn spent(answer: Result<(), Kept>) -> Step
+        ensures { result ≡ spent answer }
+    {
+        match answer {
+            Ok(()) => Step {
+                answer: Ok(()),
+                open: None,
+            },
+            Err(Kept { token, refusal }) => Step::shown(token, Err(refusal)),
+        }
+    }
 }
 
 // A call that shows a token.
 pub fn on_open(job: &mut Job, mem: &mut Memory<'_>, token: OpenComposite, call: OnOpen<'_>) -> Step
     ensures outcome { OnOpenSteps job.old (lists mem.old) token call.entry result (state job.new (lists mem.new)) }
-    ensures kept { JobFits job.old (lists mem.old) → Below (state job.old (lists mem.old)) → JobFits job.new (lists mem.new) }
-    ensures below { Below (state job.old (lists mem.old)) → Below (state job.new (lists mem.new)) }
+    ensures keeps { KeepsBelow job.old (lists mem.old) job.new (lists mem.new) }
 {
     match call {
-        OnOpen::Component(component) => match job.component(mem, &token, component) {
-            Ok(()) => Step {
-                answer: Answer::Done,
-                open: Some(token),
-            },
-            Err(refusal) => Step {
-                answer: Answer::Refused(refusal),
-                open: Some(token),
-            },
-        },
-        OnOpen::Close => match job.close(mem, token) {
-            Ok(()) => Step {
-                answer: Answer::Done,
-                open: None,
-            },
-            Err(kept) => {
-                let Kept { token, refusal } = kept;
-                Step {
-                    answer: Answer::Refused(refusal),
-                    open: Some(token),
-                }
-            }
-        },
-        OnOpen::Cancel => match job.cancel(mem, token) {
-            Ok(()) => Step {
-                answer: Answer::Done,
-                open: None,
-            },
-            Err(kept) => {
-                let Kept { token, refusal } = kept;
-                Step {
-                    answer: Answer::Refused(refusal),
-                    open: Some(token),
-                }
-            }
-        },
+        OnOpen::Component(component) => {
+            let answer = job.component(mem, &token, component);
+            Step::shown(token, answer)
+        }
+        OnOpen::Close => Step::spent(job.close(mem, token)),
+        OnOpen::Cancel => Step::spent(job.cancel(mem, token)),
     }
 }
 
 // A call on the open composite where none is open. It shows the token of another job's composite, so that it goes through the same
 // checks as any other and is answered by the first that refuses.
-pub fn unopened(job: &mut Job, mem: &mut Memory<'_>, call: OnOpen<'_>) -> Answer
+pub fn unopened(job: &mut Job, mem: &mut Memory<'_>, call: OnOpen<'_>) -> Result<(), Refusal>
     ensures outcome { ShowsAnother job.old (lists mem.old) call.entry result (state job.new (lists mem.new)) }
-    ensures kept { JobFits job.old (lists mem.old) → Below (state job.old (lists mem.old)) → JobFits job.new (lists mem.new) }
-    ensures below { Below (state job.old (lists mem.old)) → Below (state job.new (lists mem.new)) }
+    ensures keeps { KeepsBelow job.old (lists mem.old) job.new (lists mem.new) }
 {
     let number = if job.number() == 0 { 1 } else { 0 };
     let mut other = Job::new(number);
@@ -97,17 +82,11 @@ pub fn unopened(job: &mut Job, mem: &mut Memory<'_>, call: OnOpen<'_>) -> Answer
         composites: &mut composites,
         axis_lists: &mut [],
     };
-    let token = match other.begin(&mut scratch) {
-        Ok(token) => token,
-        Err(_) => unreachable(),
-    };
+    let token = other.begin(&mut scratch).unwrap();
     let Step { answer, open } = on_open(job, mem, token, call);
-    let token = match open {
-        Some(token) => token,
-        None => unreachable(),
-    };
+    let token = open.unwrap();
     match other.cancel(&scratch, token) {
         Ok(()) => answer,
-        Err(_kept) => unreachable(),
+        Err(_kept) => unreachable!(),
     }
 }
