@@ -1,9 +1,9 @@
 -- A record reads back.
-use Rattle.std.proofs.Common.{◌≡◌, ℕ, zero, suc, ◌+◌, ◌*◌, ◌/◌, ◌^◌, ◌<◌, Bool, true, false, cond, List, [], ◌∷◌, ◌++◌, map, length, get_or, ℤ, is_some, Option, refl, ap, ◌∙◌, append_assoc, arith, w16}
+use Rattle.std.proofs.Common.{IfSome, ◌≡◌, ℕ, zero, suc, ◌+◌, ◌*◌, ◌/◌, ◌^◌, ◌<◌, Bool, true, false, cond, List, [], ◌∷◌, ◌++◌, map, length, get_or, ℤ, is_some, Option, refl, ap, ◌∙◌, append_assoc, arith, w16}
 use native.Mathlib.Nat.{pow-succ'}
 use Rattle.std.proofs.lemmas.Bool.{ltb-false, eq-eqb, ne_eqb}
 use Rattle.std.specs.List.{AllByRecursion, flat_map}
-use Rattle.format.specs.Fits.{Held, Fits16, AxesFit}
+use Rattle.format.specs.Fits.{Fits16, AxesFit}
 use Rattle.format.specs.Laws.{ComponentsReadBack}
 use Rattle.write.specs.Bytes.{be, signed16}
 use Rattle.write.specs.Optional.{present}
@@ -42,7 +42,7 @@ axes_read : (axis-list : ℕ → Read (List ℤ)) (end : ℕ) (a : ℕ × List �
 axes_read axis-list end a f rest =
     rw (append_assoc (number a.0) (packed a.1) rest, (numbers a.0 f.number_fits end _).shortest, f.listed, f.same_length, (packs a.1 f.values_fit end).1 rest)
 
-present_read : (end : ℕ) (xs : List (Option ℤ)) → AllByRecursion (Held Fits16) xs → (rest : List ℕ) → read_present end (map is_some xs) (flat_map (present signed16) xs ++ rest) ≡ got xs rest
+present_read : (end : ℕ) (xs : List (Option ℤ)) → AllByRecursion (λ x. IfSome x Fits16) xs → (rest : List ℕ) → read_present end (map is_some xs) (flat_map (present signed16) xs ++ rest) ≡ got xs rest
 present_read end [] h rest = refl
 present_read end (x ∷ xs) h rest =
     rw (
@@ -55,7 +55,7 @@ component_is : (c : Component) (after : List ℕ) → component c ++ after ≡ n
 unfolding component
 component_is c after = simp append_assoc
 
-number-held : (end : ℕ) (o : Option ℕ) → Held (λ n. n < 2 ^ 32) o → (rest : List ℕ) → optional (is_some o) (read_number end) (present number o ++ rest) ≡ got o rest
+number-held : (end : ℕ) (o : Option ℕ) → IfSome o (λ n. n < 2 ^ 32) → (rest : List ℕ) → optional (is_some o) (read_number end) (present number o ++ rest) ≡ got o rest
 number-held end o h rest = optional_reads (λ n. n < 2 ^ 32) number (read_number end) (λ n f r. (numbers n f end r).shortest) o h rest
 
 flags_small : (c : Component) → bits_value (flags c) < 2 ^ 32

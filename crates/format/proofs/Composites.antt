@@ -1,5 +1,6 @@
 -- Axis lists and components read back from a table.
-use Rattle.std.proofs.Common.{◌≡◌, ℕ, zero, suc, ◌+◌, ◌-◌, ◌^◌, ◌<◌, ◌≤◌, List, [], ◌∷◌, ◌++◌, map, length, get_or, drop, ℤ, pos, Some, None, Ok, Err, Option, refl, ap, ◌∙◌, append-nil, arith, length-append}
+use Rattle.std.proofs.lemmas.Option.{IfSome_then}
+use Rattle.std.proofs.Common.{◌≡◌, ℕ, zero, suc, ◌+◌, ◌-◌, ◌^◌, ◌<◌, ◌≤◌, List, [], ◌∷◌, ◌++◌, map, length, get_or, drop, ℤ, pos, Ok, Err, refl, ap, ◌∙◌, append-nil, arith, length-append}
 use Rattle.std.proofs.lemmas.List.{get_or-map, length-map}
 use Rattle.std.proofs.ByRecursion.{All-get_or, All-map, All-weaker}
 use Rattle.std.proofs.lemmas.Bool.{ne_eqb}
@@ -11,7 +12,7 @@ use Rattle.format.specs.Packed.{packed}
 use Rattle.format.specs.Index.{concat, index, item, item_end, count}
 use Rattle.format.specs.Component.{Component, component, settled, read_component}
 use Rattle.format.specs.Questions.{axis_list_in, component_at, component_of, settled_of, records_of, composites_of, axis_list_of}
-use Rattle.format.specs.Fits.{Held, AxesFit, AxesListed, ComponentFits, Sound, Fits32}
+use Rattle.format.specs.Fits.{AxesFit, AxesListed, ComponentFits, Sound, Fits32}
 use Rattle.format.specs.Table.{Content, Root, root, table, places, store, axis_index, composite_index}
 use Rattle.format.proofs.Packs.{packs}
 use Rattle.format.proofs.Indexes.{items_read, after-item, index_is, many-items, few_items, index_some}
@@ -69,10 +70,6 @@ unfolding axis_list_in
 axis_list_none bs r lists after p e h n le =
     let items = map (λ axes. packed (map pos axes)) lists in
     rw (ne_eqb r.axis_lists 0 (omega arith), e, (items_read items h (length bs) after n).1 (rw (length-map lists (λ (axes : List ℕ). packed (map pos axes))) le))
-
-held_weaker : {X : Type 0} (P Q : X → Type 0) → ((x : X) → P x → Q x) → (o : Option X) → Held P o → Held Q o
-held_weaker P Q f None h = tt
-held_weaker P Q f (Some x) h = f x h
 
 -- count of an INDEX
 count_reads : (items : List (List ℕ)) (end : ℕ) (after : List ℕ) → length (index items) < 2 ^ 32 → outcome (count end (index items ++ after)) ≡ Ok (length items)
@@ -135,7 +132,7 @@ module _ (k : Content) (coverage conditions : List ℕ) (sound : Sound k) (short
   component_fits c f = record {
     gid_fits = f.gid_fits;
     condition_fits = f.condition_fits;
-    axes_fit = held_weaker (AxesListed k.axis_lists) (AxesFit (axis_list_in bs r)) axes_fits c.axes f.axes_fit;
+    axes_fit = IfSome_then c.axes f.axes_fit axes_fits;
     axes_slot_fits = f.axes_slot_fits;
     transform_slot_fits = f.transform_slot_fits;
     transform_fits = f.transform_fits;

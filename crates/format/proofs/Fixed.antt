@@ -1,5 +1,5 @@
 -- A number of k bytes reads back.
-use Rattle.std.proofs.Common.{◌≡◌, ℕ, zero, suc, ◌+◌, ◌-◌, ◌*◌, ◌/◌, ◌%◌, ◌^◌, ◌<◌, List, [], ◌∷◌, ◌++◌, length, ℤ, is_some, Some, None, Option, refl, ap, ◌∙◌, append_assoc, mod-eq_of_lt, arith, SFits, to_z, of_z}
+use Rattle.std.proofs.Common.{IfSome, ◌≡◌, ℕ, zero, suc, ◌+◌, ◌-◌, ◌*◌, ◌/◌, ◌%◌, ◌^◌, ◌<◌, List, [], ◌∷◌, ◌++◌, length, ℤ, is_some, Some, None, Option, refl, ap, ◌∙◌, append_assoc, mod-eq_of_lt, arith, SFits, to_z, of_z}
 use native.Mathlib.Nat.{pow-succ'}
 use lib.Arith.{mod-mul}
 use Rattle.std.specs.List.{flat_map, AllByRecursion}
@@ -7,7 +7,6 @@ use Rattle.write.specs.Bytes.{be}
 use Rattle.format.specs.declared.Layer.{Layer}
 use Rattle.format.specs.Reads.{Read, got, then, more, fixed, many, optional}
 use Rattle.write.specs.Optional.{present}
-use Rattle.format.specs.Fits.{Held}
 use lib.Signed.{mag}
 use mir.Syntax.{Width}
 use mir.Val.{bits, hbits}
@@ -51,6 +50,6 @@ signed_reads l end w z k e h rest =
 
 -- a value that may be absent reads back
 pub optional_reads : {X : Type 0} (P : X → Type 0) (write : X → List ℕ) (read : List ℕ → Read X) → ((x : X) → P x → (rest : List ℕ) → read (write x ++ rest) ≡ got x rest) →
-    (o : Option X) → Held P o → (rest : List ℕ) → optional (is_some o) read (present write o ++ rest) ≡ got o rest
+    (o : Option X) → IfSome o P → (rest : List ℕ) → optional (is_some o) read (present write o ++ rest) ≡ got o rest
 optional_reads P write read one None h rest = refl
 optional_reads P write read one (Some x) h rest = rw (one x h rest)

@@ -1,5 +1,5 @@
 -- Which components and contents can be written: their counts and numbers fit their fields.
-use Rattle.std.specs.Prelude.{◌≡◌, ℕ, ◌^◌, ◌<◌, List, [], length, ℤ, Some, None, Option, slice_index_or}
+use Rattle.std.specs.Prelude.{◌≡◌, ℕ, ◌^◌, ◌<◌, List, [], length, ℤ, IfSome, slice_index_or}
 use Rattle.std.specs.Int.Signed.{mag}
 use Rattle.std.specs.List.{AllByRecursion}
 use Rattle.format.specs.declared.Coordinate.{Coordinate}
@@ -16,11 +16,6 @@ Fits16 z = mag z < 2 ^ 15
 abbrev pub Fits32 : ℤ → Type 0
 Fits32 z = mag z < 2 ^ 31
 
--- what holds of a value, where there is one
-abbrev pub Held : {X : Type 0} → (X → Type 0) → Option X → Type 0
-Held P None = Unit {0}
-Held P (Some x) = P x
-
 -- axis values fit the axis list of their number, as it is looked up
 pub record AxesFit (axis-list : ℕ → Read (List ℤ)) (a : ℕ × List ℤ) : Type 0 where
   pub number_fits : a.0 < 2 ^ 32
@@ -33,11 +28,11 @@ pub record AxesFit (axis-list : ℕ → Read (List ℤ)) (a : ℕ × List ℤ) :
 -- a component's numbers fit their fields
 pub record ComponentFits (Axes : ℕ × List ℤ → Type 0) (c : Component) : Type 0 where
   pub gid_fits : c.gid < 2 ^ 24
-  pub condition_fits : Held (λ n. n < 2 ^ 32) c.condition
-  pub axes_fit : Held Axes c.axes
-  pub axes_slot_fits : Held (λ n. n < 2 ^ 32) c.axes_slot
-  pub transform_slot_fits : Held (λ n. n < 2 ^ 32) c.transform_slot
-  pub transform_fits : AllByRecursion (Held Fits16) (nine c.transform)
+  pub condition_fits : IfSome c.condition (λ n. n < 2 ^ 32)
+  pub axes_fit : IfSome c.axes Axes
+  pub axes_slot_fits : IfSome c.axes_slot (λ n. n < 2 ^ 32)
+  pub transform_slot_fits : IfSome c.transform_slot (λ n. n < 2 ^ 32)
+  pub transform_fits : AllByRecursion (λ x. IfSome x Fits16) (nine c.transform)
 
 -- axis values fit the axis list of their number, which the content has
 pub record AxesListed (lists : List (List ℕ)) (a : ℕ × List ℤ) : Type 0 where

@@ -1,5 +1,6 @@
 -- What a job holds is sound with a delta set added, where it was before.
-use Rattle.std.proofs.Common.{◌≡◌, ℕ, suc, ◌+◌, ◌<◌, ◌≤◌, Bool, true, false, cond, not, List, [], ◌∷◌, ◌++◌, map, length, drop, ℤ, IfSome, Some, None, Option, sym, refl, ap, ◌∙◌, subst, inl, inr, ⊎_elim, arith}
+use Rattle.std.proofs.Common.{◌≡◌, ℕ, suc, ◌+◌, ◌<◌, ◌≤◌, Bool, true, false, cond, not, List, [], ◌∷◌, ◌++◌, map, length, drop, ℤ, Option, sym, refl, ap, ◌∙◌, subst, inl, inr, ⊎_elim, arith}
+use Rattle.std.proofs.lemmas.Option.{IfSome_then}
 use Rattle.std.proofs.ByRecursion.{All-append, All-weaker, all_kept_by}
 use Rattle.std.proofs.lemmas.List.{append_assoc, length-append, length-take-le, length-drop}
 use Rattle.std.specs.List.{flat_map, AllByRecursion}
@@ -108,17 +109,13 @@ set_new es values width at ts s at-end long order widths l =
 known_more : (m n : ℕ) → m ≤ n → (id : TemporaryDeltaSetId) → Known m id → Known n id
 known_more m n le id h = ⊎_elim inl (λ l. inr (omega arith)) h
 
-found_weaker : {X : Type 0} {P Q : X → Type 0} → ((x : X) → P x → Q x) → (o : Option X) → IfSome o P → IfSome o Q
-found_weaker f None h = tt
-found_weaker f (Some x) h = f x h
-
 component-more : (pairs : List _) (m n : ℕ) → m ≤ n → (c : Component) → ComponentFits pairs m c → ComponentFits pairs n c
 component-more pairs m n le c h =
     record {
       gid = h.gid;
       axes = h.axes;
-      axis_values_var = found_weaker (known_more m n le) c.axis_values_var h.axis_values_var;
-      transform_var = found_weaker (known_more m n le) c.transform_var h.transform_var;
+      axis_values_var = IfSome_then c.axis_values_var h.axis_values_var (known_more m n le);
+      transform_var = IfSome_then c.transform_var h.transform_var (known_more m n le);
     }
 
 -- tuples
@@ -224,5 +221,5 @@ module _ (h : Lists) (d : Handed)
         composites = s.composites;
         axis_lists = s.axis_lists;
         groups = limits.groups;
-        begun = found_weaker (λ m f. record { begun = f.begun; components = f.components; pairs = f.pairs }) mark s.begun;
+        begun = IfSome_then mark s.begun (λ m f. record { begun = f.begun; components = f.components; pairs = f.pairs });
       }

@@ -1,6 +1,7 @@
 -- A job that fits its memory still does after the calls.
 use Rattle.std.proofs.Common.{◌≡◌, ℕ, ◌-◌, ◌≤◌, List, [], ◌∷◌, ◌++◌, map, length, take, IfSome, Some, None, Option, sym, refl, ap, ◌∙◌, subst, arith}
 use Rattle.std.proofs.lemmas.List.{length-take-le, length-append, length_push, take_at, take-append-le}
+use Rattle.std.proofs.lemmas.Option.{IfSome_then}
 use Rattle.std.proofs.ByRecursion.{All-push, All-weaker, All-take}
 use Rattle.memory.specs.Lists.{Lists, held}
 use Rattle.memory.specs.Fit.{Sound, MarkFits, ComponentFits, AxesFit, Within}
@@ -14,10 +15,6 @@ use Rattle.memory.specs.declared.records.Pair.{Pair}
 use Rattle.memory.specs.declared.records.Span.{Span}
 use Rattle.std.specs.List.{AllByRecursion}
 use Rattle.memory.proofs.Parts.{part-take, part-more, part_new}
-
-found_weaker : {X : Type 0} {P Q : X → Type 0} → ((x : X) → P x → Q x) → (o : Option X) → IfSome o P → IfSome o Q
-found_weaker f None h = tt
-found_weaker f (Some x) h = f x h
 
 found_both : {X : Type 0} {P Q R : X → Type 0} → ((x : X) → P x → Q x → R x) → (o : Option X) → IfSome o P → IfSome o Q → IfSome o R
 found_both f None h k = tt
@@ -41,7 +38,7 @@ module _ (ps new : List Pair) where
 
   component-more : (sets : ℕ) (c : Component) → ComponentFits ps sets c → ComponentFits (ps ++ new) sets c
   component-more sets c h =
-      record { gid = h.gid; axes = found_weaker axes_more c.axes h.axes; axis_values_var = h.axis_values_var; transform_var = h.transform_var }
+      record { gid = h.gid; axes = IfSome_then c.axes h.axes axes_more; axis_values_var = h.axis_values_var; transform_var = h.transform_var }
 
 axes_new : (n : ℕ) (ps : List Pair) (given : Option (List Pair)) → length ps ≡ n → AscendingNumbers (map (λ p. p.axis) (listed given)) → IfSome (spanned n given) (AxesFit (ps ++ listed given))
 axes_new n ps None e h = tt
@@ -107,9 +104,8 @@ module _ (j : Job) (l : Lists) (fits : JobFits j l) where
         axis_lists = All-weaker _ _ (within_more (length H.pairs) (length (H.pairs ++ new)) (omega (arith, longer))) H.axis_lists s.axis_lists;
         groups = s.groups;
         begun =
-            found_weaker
-            (λ m h. record { begun = h.begun; components = omega (arith, h.components, more); pairs = omega (arith, h.pairs, longer) })
-            j.mark s.begun;
+            IfSome_then j.mark s.begun
+            (λ m h. record { begun = h.begun; components = omega (arith, h.components, more); pairs = omega (arith, h.pairs, longer) });
       }
 
   module _ (m : Mark) (is : j.mark ≡ Some m) where
@@ -157,7 +153,7 @@ module _ (j : Job) (l : Lists) (fits : JobFits j l) where
         composites = subst (AllByRecursion (Within j.counts.components)) (sym (length_less_one K.composites x)) (subst (λ k. AllByRecursion (Within k) K.composites) n s.composites);
         components =
             All-take _ j.counts.components K.components
-            (All-weaker (ComponentFits K.pairs (length K.sets)) _ (λ c h. found_weaker (λ a f. omega (arith, f.within, p)) c.axes h.axes) K.components s.components);
+            (All-weaker (ComponentFits K.pairs (length K.sets)) _ (λ c h. IfSome_then c.axes h.axes (λ a f. omega (arith, f.within, p))) K.components s.components);
         axis_lists = subst (λ k. AllByRecursion (Within k) K.axis_lists) p s.axis_lists;
       }
 
