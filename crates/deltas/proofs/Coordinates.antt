@@ -1,25 +1,13 @@
 -- Regions compared, one coordinate after the other.
-use Rattle.std.proofs.Common.{ℤ, ◌&&◌, int_eq, ◌≡◌, ℕ, ◌+◌, ◌<◌, Bool, true, false, cond, eqb, List, [], ◌∷◌, map, length, get_or, drop, Decides, sym, refl, ap, ap₂, ◌∙◌, arith}
-use Rattle.std.proofs.lemmas.List.{at_drop_more, length-map, get_or-map}
-use Rattle.std.proofs.lemmas.Bool.{cond-true, cond-false}
+use Rattle.std.proofs.Common.{ℤ, ◌&&◌, int_eq, ◌≡◌, ℕ, ◌<◌, Bool, eqb, List, [], ◌∷◌, map, length, get_or, Decides, sym, refl, ap, ap₂, ◌∙◌, arith}
+use Rattle.std.proofs.lemmas.List.{length-map, get_or-map}
 use Rattle.std.proofs.lemmas.Bool.Decides.{Decides-and, Decides-like, Decides-eqb, Decides-int_eq}
 use Rattle.format.specs.declared.Coordinate.{Coordinate}
 use Rattle.keys.specs.Sameness.{joined}
 use Rattle.memory.specs.Lists.{part}
 use Rattle.memory.specs.declared.records.Span.{Span}
-use Rattle.deltas.specs.Regions.{has_peak, kept, held, regions_of}
+use Rattle.deltas.specs.Regions.{held, regions_of}
 use Rattle.deltas.specs.declared.regions.HeldRegion.{HeldRegion}
-
--- the coordinates that have a peak, one after the other
-module _ (cs : List Coordinate) (i : ℕ) (d : Coordinate) (r : Bool) (l : i < length cs) (is : r ≡ has_peak (get_or cs i d)) where
-  kept_step : kept (drop i cs) ≡ cond (has_peak (get_or cs i d)) (get_or cs i d ∷ kept (drop (i + 1) cs)) (kept (drop (i + 1) cs))
-  kept_step = at_drop_more kept cs i d l
-
-  pub kept_next : r ≡ true → kept (drop i cs) ≡ get_or cs i d ∷ kept (drop (i + 1) cs)
-  kept_next h = kept_step ∙ cond-true (has_peak (get_or cs i d)) _ _ (sym is ∙ h)
-
-  pub kept_skip : r ≡ false → kept (drop i cs) ≡ kept (drop (i + 1) cs)
-  kept_skip h = kept_step ∙ cond-false (has_peak (get_or cs i d)) _ _ (sym is ∙ h)
 
 -- `==` of two coordinates, as it is derived
 abbrev pub coordinate_eq : Coordinate → Coordinate → Bool

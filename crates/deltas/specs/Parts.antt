@@ -1,5 +1,5 @@
 -- How the parts of a delta set lie on the coordinates and the values that are handed in.
-use Rattle.std.specs.Prelude.{◌≡◌, ℕ, ◌+◌, List, [], ◌∷◌, map, take, drop}
+use Rattle.std.specs.Prelude.{◌≡◌, ℕ, sum_by, List, [], ◌∷◌, map, take, drop}
 use Rattle.std.specs.List.{AllByRecursion}
 use Rattle.format.specs.declared.Coordinate.{Coordinate}
 use Rattle.keys.specs.Numbers.{AscendingNumbers}
@@ -7,13 +7,11 @@ use Rattle.deltas.specs.declared.parts.Part.{Part}
 
 -- The axis counts of all parts together.
 abbrev pub axes_total : List Part → ℕ
-axes_total [] = 0
-axes_total (p ∷ ps) = p.axes + axes_total ps
+axes_total = sum_by (λ p. p.axes)
 
 -- The value counts of all parts together.
 abbrev pub values_total : List Part → ℕ
-values_total [] = 0
-values_total (p ∷ ps) = p.values + values_total ps
+values_total = sum_by (λ p. p.values)
 
 -- The parts' counts add up to so many coordinates and so many values.
 pub record AddUp (parts : List Part) (axes values : ℕ) : Type 0 where
