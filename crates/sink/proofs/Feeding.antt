@@ -1,17 +1,11 @@
 -- How writes to a sink join: what the proof of a writer that calls others cites.
-use Rattle.std.proofs.Common.{◌≡◌, ℕ, suc, ◌+◌, ◌-◌, ◌≤◌, true, List, [], ◌∷◌, ◌++◌, length, take, is_err, Ok, Err, Result, sym, refl, ap, ◌∙◌, subst, arith, length-append}
+use Rattle.std.proofs.Common.{◌≡◌, ℕ, ◌+◌, ◌-◌, ◌≤◌, true, List, [], ◌∷◌, ◌++◌, length, take, is_err, Ok, Err, Result, sym, refl, ap, ◌∙◌, arith, length-append}
 use Rattle.std.proofs.lemmas.List.{append-nil, append_assoc, take-append-le}
+use Rattle.std.proofs.Math.Seq.{take-append-add}
 use Rattle.sink.specs.Kinds.{held}
 use Rattle.sink.specs.declared.buffer.Buffer.{Buffer}
 use Rattle.sink.specs.Meaning.{Meaning, Takes, Stops, WhileRoom}
 use mathlib.Core.Bool.{false≢true}
-
--- a front, and as much again
-take_past : (n k : ℕ) (xs ys : List ℕ) → n ≡ length xs + k → take n (xs ++ ys) ≡ xs ++ take k ys
-take_past n k [] ys e = ap (λ i. take i ys) (omega arith)
-take_past n k (x ∷ xs) ys e =
-    let f : n ≡ suc (n - 1) = omega arith in
-    subst (λ i. take i (x ∷ (xs ++ ys)) ≡ x ∷ (xs ++ take k ys)) (sym f) (ap (λ zs. x ∷ zs) (take_past (n - 1) k xs ys (omega arith)))
 
 module _ {S : Type 0} (m : Meaning S) where
   -- On the way from s through all of whole, come to t, with rest still to be fed: what a loop that writes keeps.
@@ -41,7 +35,7 @@ module _ {S : Type 0} {m : Meaning S} where
       let e : m.limit s - m.count s ≡ length xs + (m.limit t - m.count t) = omega arith in
       record {
         full = simp length-append (omega arith);
-        takes = rw (take_past _ _ xs ys e) (takes_then p q.takes);
+        takes = rw (e, take-append-add xs ys _) (takes_then p q.takes);
       }
 
   pub stops-before : {s t : S} {xs : List ℕ} (ys : List ℕ) → Stops m s xs t → Stops m s (xs ++ ys) t
@@ -54,6 +48,11 @@ module _ {S : Type 0} {m : Meaning S} where
   stops_full {s} {t} x full same =
       let z : m.limit s - m.count s ≡ 0 = omega arith in
       record { full = omega arith; takes = rw (z, same) (takes_none s) }
+
+  -- one write after another, whose answer is returned
+  pub while_room_then : {X E : Type 0} {s t u : S} {xs ys : List ℕ} (r : Result X E) → Takes m s xs t → WhileRoom m t ys r u → WhileRoom m s (xs ++ ys) r u
+  while_room_then (Ok x) p q = takes_then p q
+  while_room_then (Err e) p q = stops_then p q
 
   -- what the exit of a `?` returns
   pub while_room_err : {X E : Type 0} {s t : S} {xs : List ℕ} (r : Result X E) → is_err r ≡ true → Stops m s xs t → WhileRoom m s xs r t

@@ -40,10 +40,10 @@ counted limit =
 abbrev pub summed : Meaning Checksum
 summed =
     record {
-      fed = λ s xs. (length xs ≡ s.bytes) × (checksum xs ≡ s.sum);
-      count = λ s. s.bytes;
+      fed = λ s xs. (counted longest).fed s.bytes xs × (checksum xs ≡ s.sum);
+      count = λ s. (counted longest).count s.bytes;
       limit = λ s. longest;
       loan = λ s. [];
       long = λ s xs h. h.0;
-      within = λ s. s.ok;
+      within = λ s. (counted longest).within s.bytes;
     }

@@ -1,11 +1,10 @@
 // Sums the 32-bit words of the bytes that it takes, and keeps none.
-ghost use Rattle.std.specs.Prelude.{◌≤◌};
+use crate::counter::ByteCounter;
 
 pub mod feeding;
 
 #[derive(Clone, Copy)]
 pub struct Checksum {
-    bytes: u32,
+    bytes: ByteCounter,
     sum: u32,
-    ghost ok: { bytes ≤ 268435455 },
 }

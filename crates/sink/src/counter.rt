@@ -10,5 +10,8 @@ pub struct Counter<const LIMIT: usize> {
     ghost ok: { bytes ≤ LIMIT },
 }
 
+// As many bytes as a table may have.
+pub const LONGEST: usize = 268435455;
+
 // Counts as many bytes as a table may have.
-pub type ByteCounter = Counter<268435455>;
+pub type ByteCounter = Counter<LONGEST>;

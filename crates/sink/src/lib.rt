@@ -8,5 +8,5 @@ pub mod sink;
 
 pub use buffer::Buffer;
 pub use checksum::Checksum;
-pub use counter::{ByteCounter, Counter};
+pub use counter::{ByteCounter, Counter, LONGEST};
 pub use sink::{Full, Sink};

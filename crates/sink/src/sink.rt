@@ -8,7 +8,7 @@ ghost use Rattle.sink.specs.Refusals.{number};
 pub struct Full;
 
 impl Full {
-    // The refusal's number.
+    // The refusal's number. There is one refusal, which carries nothing to read the number from, so the method says it.
     pub fn number(self) -> u8
         ensures { result ≡ number self }
     {

@@ -4,17 +4,18 @@ ghost use Rattle.sink.specs.Meaning.{Fresh};
 ghost use Rattle.sink.specs.Kinds.{summed};
 
 use crate::checksum::Checksum;
+use crate::counter::ByteCounter;
 use crate::sink::{Full, Sink};
-
-// As many bytes as a table may have.
-const LIMIT: u32 = 268435455;
 
 impl Checksum {
     // The checksum of nothing.
     pub fn new() -> Checksum
         ensures { Fresh summed result }
     {
-        Checksum { bytes: 0, sum: 0 }
+        Checksum {
+            bytes: ByteCounter::new(),
+            sum: 0,
+        }
     }
 
     // The checksum of whatever bytes were taken.
@@ -27,7 +28,7 @@ impl Checksum {
 }
 
 // What a byte adds to the sum at this place of the table.
-fn weighed(byte: u8, place: u32) -> u32
+fn weighed(byte: u8, place: usize) -> u32
     ensures { result ≡ byte * 256 ^ (3 - place % 4) }
 {
     let byte = byte as u32;
@@ -43,19 +44,17 @@ impl Sink for Checksum {
     ghost meaning = { summed };
 
     fn put(&mut self, byte: u8) -> Result<(), Full> {
-        if self.bytes >= LIMIT {
-            return Err(Full);
-        }
-        self.sum = self.sum.wrapping_add(weighed(byte, self.bytes));
-        self.bytes += 1;
+        let place = self.bytes.count();
+        self.bytes.put(byte)?;
+        self.sum = self.sum.wrapping_add(weighed(byte, place));
         Ok(())
     }
 
     fn count(&self) -> usize {
-        self.bytes as usize
+        self.bytes.count()
     }
 
     fn limit(&self) -> usize {
-        LIMIT as usize
+        self.bytes.limit()
     }
 }

@@ -1,15 +1,15 @@
-use Rattle.std.proofs.Common.{◌+◌, ◌%◌, ◌^◌, sym, refl, ap, ◌∙◌, rules}
-use Rattle.std.proofs.lemmas.List.{length_push}
+use Rattle.std.proofs.Common.{◌+◌, ◌%◌, ◌^◌, sym, refl, ap, ◌∙◌}
 use Rattle.sink.proofs.Sums.{checksum_push}
 use Rattle.sink.proofs.checksum.feeding.ChecksumSink.put.Goals as goal
 
 pub returns : goal.returns
 returns c =
-    let s = c.args.self.now in
+    let t = c.in_ok-put.ensures in
+    let sum = c.args.self.now.sum in
     record {
-      room = search rules;
-      counts = refl;
+      room = t.room;
+      counts = t.counts;
       limits = refl;
       loans = refl;
-      feeds = λ before h. (length_push before c.args.byte ∙ ap (λ n. n + 1) h.0, checksum_push before c.args.byte s.bytes s.sum h.0 h.1 ∙ ap (λ w. (s.sum + w) % 2 ^ 32) (sym c.weighed.ensures));
+      feeds = λ before h. (t.feeds before h.0, checksum_push before c.args.byte c.count-place.result sum (h.0 ∙ sym c.count-place.ensures) h.1 ∙ ap (λ w. (sum + w) % 2 ^ 32) (sym c.weighed.ensures));
     }
