@@ -1,5 +1,5 @@
 -- How writes to a sink join: what the proof of a writer that calls others cites.
-use Rattle.std.proofs.Common.{◌≡◌, ℕ, ◌+◌, ◌-◌, ◌≤◌, true, List, [], ◌∷◌, ◌++◌, length, take, is_err, Ok, Err, Result, sym, refl, ap, ◌∙◌, arith, length-append}
+use Rattle.std.proofs.Common.{◌≡◌, ℕ, ◌+◌, ◌-◌, ◌≤◌, true, List, [], ◌++◌, length, take, is_err, Ok, Err, Result, sym, refl, ap, ◌∙◌, arith, length-append}
 use Rattle.std.proofs.lemmas.List.{append-nil, append_assoc, take-append-le}
 use Rattle.std.proofs.Math.Seq.{take-append-add}
 use Rattle.sink.specs.Kinds.{held}
@@ -42,17 +42,6 @@ module _ {S : Type 0} {m : Meaning S} where
   stops-before {s} {t} {xs} ys p =
       let l : m.limit s - m.count s ≤ length xs = omega arith in
       record { full = simp length-append (omega arith); takes = rw take-append-le p.takes }
-
-  -- a full sink takes no byte
-  pub stops_full : {s t : S} (x : ℕ) → m.count s ≡ m.limit s → t ≡ s → Stops m s (x ∷ []) t
-  stops_full {s} {t} x full same =
-      let z : m.limit s - m.count s ≡ 0 = omega arith in
-      record { full = omega arith; takes = rw (z, same) (takes_none s) }
-
-  -- one write after another, whose answer is returned
-  pub while_room_then : {X E : Type 0} {s t u : S} {xs ys : List ℕ} (r : Result X E) → Takes m s xs t → WhileRoom m t ys r u → WhileRoom m s (xs ++ ys) r u
-  while_room_then (Ok x) p q = takes_then p q
-  while_room_then (Err e) p q = stops_then p q
 
   -- what the exit of a `?` returns
   pub while_room_err : {X E : Type 0} {s t : S} {xs : List ℕ} (r : Result X E) → is_err r ≡ true → Stops m s xs t → WhileRoom m s xs r t

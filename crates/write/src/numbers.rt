@@ -1,15 +1,11 @@
 // Whole numbers, the most significant byte first.
+#![tactic(auto, unfolding(crate::specs::Bytes::be))]
+
 ghost use Rattle.std.specs.Prelude.{[], ◌∷◌};
 ghost use Rattle.write.specs.Bytes.{be, signed8, signed16, signed32};
 
 use crate::write::{FontWrite, put_all};
 use sink::{Full, Sink};
-
-macro_rules! put_be_bytes {
-    ($number:expr, $sink:expr) => {
-        put_all(&$number.to_be_bytes(), $sink)
-    };
-}
 
 impl FontWrite for u8 {
     ghost bytes = { λ n. n ∷ [] };
@@ -23,7 +19,7 @@ impl FontWrite for u16 {
     ghost bytes = { be 2 };
 
     fn write_while_room<S: Sink>(&self, sink: &mut S) -> Result<(), Full> {
-        put_be_bytes!(self, sink)
+        put_all(&u16::to_be_bytes(*self), sink)
     }
 }
 
@@ -31,7 +27,7 @@ impl FontWrite for u32 {
     ghost bytes = { be 4 };
 
     fn write_while_room<S: Sink>(&self, sink: &mut S) -> Result<(), Full> {
-        put_be_bytes!(self, sink)
+        put_all(&u32::to_be_bytes(*self), sink)
     }
 }
 
@@ -39,7 +35,7 @@ impl FontWrite for i8 {
     ghost bytes = { signed8 };
 
     fn write_while_room<S: Sink>(&self, sink: &mut S) -> Result<(), Full> {
-        put_be_bytes!(self, sink)
+        put_all(&i8::to_be_bytes(*self), sink)
     }
 }
 
@@ -47,7 +43,7 @@ impl FontWrite for i16 {
     ghost bytes = { signed16 };
 
     fn write_while_room<S: Sink>(&self, sink: &mut S) -> Result<(), Full> {
-        put_be_bytes!(self, sink)
+        put_all(&i16::to_be_bytes(*self), sink)
     }
 }
 
@@ -55,6 +51,6 @@ impl FontWrite for i32 {
     ghost bytes = { signed32 };
 
     fn write_while_room<S: Sink>(&self, sink: &mut S) -> Result<(), Full> {
-        put_be_bytes!(self, sink)
+        put_all(&i32::to_be_bytes(*self), sink)
     }
 }

@@ -7,7 +7,7 @@ use crate::write::{FontWrite, put_all, write_each};
 use sink::{Full, Sink};
 
 // Bytes that stand for themselves.
-#[derive(Clone, Copy)]
+#[derive(Clone, Copy, PartialEq, Eq, Debug)]
 pub struct Bytes<'a>(pub &'a [u8]);
 
 impl<'a> FontWrite for Bytes<'a> {
@@ -58,11 +58,12 @@ impl<A: FontWrite, B: FontWrite> FontWrite for (A, B) {
 
     fn write_while_room<S: Sink>(&self, sink: &mut S) -> Result<(), Full> {
         self.0.write_while_room(sink)?;
-        self.1.write_while_room(sink)?;
-        Ok(())
+        self.1.write_while_room(sink)
     }
 }
 
+// Each length of tuple has an `impl` of its own, since nothing goes over the parts of a tuple of any length. A longer one is
+// written as the pair of its first part and the rest.
 impl<A: FontWrite, B: FontWrite, C: FontWrite> FontWrite for (A, B, C) {
     ghost bytes = { λ x. A.FontWrite.bytes x.0 ++ (B.FontWrite.bytes x.1 ++ C.FontWrite.bytes x.2) };
 

@@ -1,3 +1,5 @@
+#![tactic(auto, unfolding(crate::specs::Bytes::be))]
+
 ghost use Rattle.std.specs.Prelude.{◌≡◌, ◌^◌, ◌<◌, ◌≤◌, MatchOption};
 ghost use Rattle.write.specs.Bytes.{be};
 
@@ -5,6 +7,8 @@ use crate::uint24::Uint24;
 use crate::write::{FontWrite, put_all};
 use sink::{Full, Sink};
 
+// `checked_new` and `to_u32` are named as in the library that the type is ported from; a `TryFrom` would want an error of its
+// own, which says no more than `None`.
 impl Uint24 {
     // The number, or none where it needs more than 24 bits.
     pub fn checked_new(raw: u32) -> Option<Uint24>

@@ -1,6 +1,4 @@
-use Rattle.std.specs.List.{flat_map}
-use Rattle.std.proofs.lemmas.List.{at_drop_all}
-use Rattle.sink.proofs.Feeding.{leaves_step, leaves_stop, leaves_end, while_room_err}
+use Rattle.sink.proofs.Feeding.{leaves_step, leaves_stop, while_room_err}
 use Rattle.write.proofs.Joins.{joined-next}
 use Rattle.write.proofs.write.write_each.Goals as goal
 
@@ -14,6 +12,3 @@ returns-in_err-write_while_room g c =
     while_room_err c.from_residual.result c.from_residual.ensures.0
     (leaves_stop _ c.loop-v.invariant c.in_err-write_while_room.ensures
     (joined-next g.T.FontWrite.bytes c.args.values.now c.loop-v.v-index c.v-item.result c.loop-v-test.true c.v-item.is))
-
-pub returns : goal.returns
-returns g c = leaves_end c.loop-v.invariant (at_drop_all (flat_map g.T.FontWrite.bytes) c.args.values.now c.loop-v.v-index c.loop-v-test.false)

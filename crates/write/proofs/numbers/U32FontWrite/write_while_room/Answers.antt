@@ -1,7 +1,0 @@
-use Rattle.std.proofs.Common.{rules}
-use Rattle.write.specs.Bytes.{be}
-use Rattle.write.proofs.numbers.U32FontWrite.write_while_room.Goals as goal
-
-pub returns : goal.returns
-unfolding be
-returns g c = search rules
