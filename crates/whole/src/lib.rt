@@ -1,16 +1,19 @@
 // What people ask of a value: to be written whole or not at all, its length, its checksum, its bytes in a slice.
 #![tactic(auto)]
 
-ghost use Rattle.std.specs.Prelude.{◌≡◌, ◌<◌, length, IfOk, MatchResult};
+ghost use Rattle.std.specs.Prelude.{◌≡◌, ◌<◌, ◌↔◌, length, IfOk, IsErrOf, MatchResult};
 ghost use Rattle.sink.specs.Meaning.{Whole};
 ghost use Rattle.whole.specs.Asked.{countable, Enters, Encodes};
 
+pub mod error;
+
+pub use error::ToVecError;
 use sink::{Buffer, Checksum, Counter, Full, Sink};
-use std::alloc::{AllocError, Global};
+use std::alloc::Global;
 use write::FontWrite;
 
 // Counts as many bytes as a number of the machine can say.
-type Measure = Counter<18446744073709551615>;
+type Measure = Counter<{ usize::MAX }>;
 
 // Writes the value whole, or not at all: it measures first, compares with the room, and only then feeds.
 pub fn write_into<T: FontWrite, S: Sink>(value: &T, sink: &mut S) -> Result<(), Full>
@@ -20,10 +23,7 @@ pub fn write_into<T: FontWrite, S: Sink>(value: &T, sink: &mut S) -> Result<(), 
     if length_of(value)? > room {
         return Err(Full);
     }
-    match value.write_while_room(sink) {
-        Ok(()) => Ok(()),
-        Err(_) => unreachable(),
-    }
+    value.write_while_room(sink)
 }
 
 // How many bytes a value takes; refused where no number of the machine can say.
@@ -59,22 +59,17 @@ pub fn write_to_slice<T: FontWrite>(value: &T, out: &mut [u8]) -> Result<usize, 
     ensures { Encodes out.old (T.bytes value.now) result out.new }
 {
     let mut buffer = Buffer::new(out);
-    match write_into(value, &mut buffer) {
-        Ok(()) => Ok(buffer.count()),
-        Err(full) => Err(full),
-    }
+    write_into(value, &mut buffer)?;
+    Ok(buffer.count())
 }
 
-// The bytes of a value; fails only for want of memory.
-pub fn to_vec<T: FontWrite>(heap: Global, value: &T) -> Result<Vec<u8>, AllocError>
-    ensures { IfOk result (λ v. v.items ≡ T.bytes value.now) }
+// The bytes of a value. Too long where no number of the machine can say how many they are, and only there; whether memory
+// suffices is left open.
+pub fn to_vec<T: FontWrite>(heap: Global, value: &T) -> Result<Vec<u8>, ToVecError>
+    ensures bytes { IfOk result (λ v. v.items ≡ T.bytes value.now) }
+    ensures too_long { IsErrOf result ToVecError.TooLong ↔ (countable < length (T.bytes value.now)) }
 {
-    let Ok(length) = length_of(value) else {
-        return Err(AllocError);
-    };
-    let mut out = vec![in heap; 0u8; length]?;
-    match write_to_slice(value, &mut out) {
-        Ok(_) => Ok(out),
-        Err(_) => unreachable(),
-    }
+    let mut out = vec![in heap; 0u8; length_of(value)?]?;
+    write_to_slice(value, &mut out).unwrap();
+    Ok(out)
 }

@@ -1,11 +1,11 @@
-use Rattle.std.proofs.Common.{◌≡◌, ◌<◌, [], length, take, ap, ◌∙◌, arith, rules}
+use Rattle.std.proofs.Common.{◌≡◌, [], length, take, ap, ◌∙◌, arith, rules}
 use Rattle.sink.specs.Kinds.{held}
 use Rattle.sink.proofs.Feeding.{held_front}
 use Rattle.whole.proofs.write_to_slice.Goals as goal
 
-pub returns-in-Ok : goal.returns-in-Ok
-returns-in-Ok g c =
-    let t = c.in-Ok.ensures in
+pub returns : goal.returns
+returns g c =
+    let t = c.in_ok-write_into.ensures in
     let bytes = g.T.FontWrite.bytes c.args.value.now in
     let last = c.write_into.new.sink in
     let fresh = c.new-buffer.ensures.fresh.0 in
@@ -13,11 +13,3 @@ returns-in-Ok g c =
     let front : take c.count.result last.room.now ≡ bytes = ap (λ k. take k last.room.now) n ∙ held_front last bytes (t.feeds [] fresh) in
     let name = t.loans in
     (n, search rules)
-
-pub returns-in-Err : goal.returns-in-Err
-returns-in-Err g c =
-    let t = c.in-Err.ensures in
-    let fresh = c.new-buffer.ensures.fresh.0 in
-    let none = held.long c.new-buffer.result [] fresh in
-    let full : length c.args.out.now < length (g.T.FontWrite.bytes c.args.value.now) = omega (arith, t.full, none, c.new-buffer.ensures.limit) in
-    (full, search rules)
