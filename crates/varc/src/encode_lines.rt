@@ -6,7 +6,7 @@ use std::alloc::{AllocError, AllocFailed, Global};
 use std::fmt;
 use std::io::{self, BufRead, BufReader};
 use std::str::SplitWhitespace;
-use whole::to_vec;
+use whole::{ToVecError, to_vec};
 
 // Why a line has no answer.
 #[derive(Clone, Copy)]
@@ -29,6 +29,12 @@ enum Mistake<'a> {
 
 impl<'a> From<AllocError> for Mistake<'a> {
     fn from(_e: AllocError) -> Mistake<'a> {
+        Mistake::Memory
+    }
+}
+
+impl<'a> From<ToVecError> for Mistake<'a> {
+    fn from(_e: ToVecError) -> Mistake<'a> {
         Mistake::Memory
     }
 }
