@@ -1,7 +1,6 @@
 -- Parts of a list that is cut or goes on.
-use Rattle.std.proofs.Common.{◌≡◌, ℕ, ◌+◌, ◌-◌, ◌≤◌, min, List, ◌++◌, length, take, drop, sym, refl, ap, ◌∙◌, ⊎_elim, arith}
-use Rattle.std.proofs.lemmas.List.{drop-take, take-take, take_at, take_all, drop_at, length-drop, length-take, nil_from_length}
-use Rattle.std.proofs.lemmas.Bool.{cases_lt}
+use Rattle.std.proofs.Common.{◌≡◌, ℕ, ◌+◌, ◌-◌, ◌≤◌, List, ◌++◌, length, take, drop, sym, refl, ap, ◌∙◌, arith}
+use Rattle.std.proofs.lemmas.List.{drop-take, take-take, take_at, take_all, drop_at}
 use Rattle.memory.specs.Lists.{part}
 use Rattle.memory.specs.Fit.{Within}
 use Rattle.memory.specs.declared.records.Span.{Span}
@@ -21,19 +20,3 @@ module _ {X : Type 0} where
   -- what a list goes on with
   pub part_new : (n : ℕ) (xs ys : List X) → length xs ≡ n → part (record { place = n; count = length ys }) (xs ++ ys) ≡ ys
   part_new n xs ys e = ap (take (length ys)) (drop_at xs ys n e) ∙ take_all (length ys) ys (omega arith)
-
--- a span cut to the list
-pub part_any : {X : Type 0} (xs : List X) (p c f n : ℕ) → f ≡ min p (length xs) → n ≡ min c (length xs - f) → take (f + n - f) (drop f xs) ≡ take c (drop p xs)
-part_any xs p c f n fe ne =
-    ⊎_elim
-    (λ below.
-    let e : f ≡ p = omega arith in
-    let t : take (f + n - f) (drop f xs) ≡ take n (drop p xs) = ap (λ k. take k (drop f xs)) (omega arith) ∙ ap (λ k. take n (drop k xs)) e in
-    t ∙ ⊎_elim
-    (λ short. ap (λ k. take k (drop p xs)) (omega arith))
-    (λ long. take_all n (drop p xs) (omega (arith, length-drop p xs)) ∙ sym (take_all c (drop p xs) (omega (arith, length-drop p xs))))
-    (cases_lt c (length xs - p)))
-    (λ past.
-    nil_from_length (take (f + n - f) (drop f xs)) (omega (arith, length-take (f + n - f) (drop f xs), length-drop f xs))
-    ∙ sym (nil_from_length (take c (drop p xs)) (omega (arith, length-take c (drop p xs), length-drop p xs))))
-    (cases_lt p (length xs))

@@ -6,7 +6,6 @@ ghost use Rattle.memory.specs.Lists.{lists};
 use crate::fit::whole::{counted, filled, sound};
 use crate::memory::{Counts, Mark, Memory};
 
-pub mod each;
 pub mod groups;
 pub mod kinds;
 pub mod whole;

@@ -1,5 +1,10 @@
 // The records of a job's working memory.
+ghost use Rattle.std.specs.Prelude.{◌≡◌, Decides};
+ghost use Rattle.memory.specs.Fit.{Within};
+ghost use Rattle.memory.specs.Lists.{part};
+
 use format::Transform;
+use keys::Numbered;
 
 // The sentinel "no variation", of temporary ids and of variation indices.
 pub const NO_VARIATION_INDEX: u32 = 0xFFFFFFFF;
@@ -19,11 +24,37 @@ pub struct Span {
     pub count: u32,
 }
 
+impl Span {
+    // Whether it lies within so many records.
+    pub fn within(self, filled: usize) -> bool
+        ensures { Decides result (Within filled self) }
+    {
+        self.place as u64 + self.count as u64 <= filled as u64
+    }
+
+    // The part of a list that it stands for, as much as there is of it.
+    pub fn of<T>(self, xs: &[T]) -> &[T]
+        ensures { result.now ≡ part self xs.now }
+    {
+        let rest = &xs[(self.place as usize).min(xs.len())..];
+        &rest[..(self.count as usize).min(rest.len())]
+    }
+}
+
 // A tuple of a delta set: its region's number, and where its values stand.
 #[derive(Clone, Copy)]
 pub struct Entry {
     pub region: u16,
     pub place: u32,
+}
+
+// An entry goes by its region.
+impl Numbered for Entry {
+    ghost number = { λ e. e.region };
+
+    fn number(&self) -> u16 {
+        self.region
+    }
 }
 
 // A delta set: its entries, how many values each tuple has, and its slot, 0 until the job is built.
@@ -39,6 +70,15 @@ pub struct DeltaSet {
 pub struct Pair {
     pub axis: u16,
     pub value: i16,
+}
+
+// A pair goes by its axis.
+impl Numbered for Pair {
+    ghost number = { λ p. p.axis };
+
+    fn number(&self) -> u16 {
+        self.axis
+    }
 }
 
 // A component: the axis values stand in the list of pairs, the two variations go by temporary ids.

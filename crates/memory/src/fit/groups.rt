@@ -5,7 +5,6 @@ ghost use Rattle.keys.specs.Sameness.{lists, numbers};
 ghost use Rattle.memory.specs.Groups.{GroupsFit, like, region_lists};
 ghost use Rattle.memory.specs.Lists.{part};
 
-use crate::fit::each::any_part;
 use crate::records::{DeltaSet, Entry};
 use keys::{Bank, Key, find};
 
@@ -53,7 +52,7 @@ impl<'a> Bank for SetRegions<'a> {
 
     fn key_at(&self, i: usize) -> RegionList<'a> {
         RegionList {
-            entries: any_part(self.entries, self.sets[i].entries),
+            entries: self.sets[i].entries.of(self.entries),
         }
     }
 }

@@ -1,151 +1,85 @@
 // The test of each kind of record.
 ghost use Rattle.std.specs.Prelude.{◌≡◌, length, IfSome, Decides};
-ghost use Rattle.memory.specs.Fit.{RegionFits, EntryFits, SetFits, ComponentFits, AxesFit, Known, Within, Tuple};
+ghost use Rattle.std.specs.List.{AllByRecursion};
+ghost use Rattle.memory.specs.Fit.{RegionFits, EntryFits, SetFits, ComponentFits, AxesFit, Known, Within};
 
-use crate::fit::each::{Test, part_ascends, part_passes, span_within};
-use crate::records::{Component, DeltaSet, Entry, Pair, Span, TemporaryDeltaSetId};
+use crate::records::{
+    Component, DeltaSet, Entry, NO_VARIATION_INDEX, Pair, Span, TemporaryDeltaSetId,
+};
 use format::Coordinate;
+use keys::numbers_ascend;
 
-#[derive(Clone, Copy)]
-pub struct SpanTest {
-    pub filled: usize,
+// Whether each span lies within so many records.
+pub fn spans_within(spans: &[Span], filled: usize) -> bool
+    ensures { Decides result (AllByRecursion (Within filled) spans.now) }
+{
+    spans.iter().all(|s| s.within(filled))
 }
 
-impl Test for SpanTest {
-    type Record = Span;
-
-    ghost Passes = { λ t s. Within t.filled s };
-
-    fn passes(&self, x: &Span) -> bool {
-        span_within(*x, self.filled)
-    }
+// Whether each region has no more than 65,535 axes and lies within the coordinates, and its axis numbers strictly ascend.
+pub fn regions_fit(regions: &[Span], coordinates: &[Coordinate]) -> bool
+    ensures { Decides result (AllByRecursion (RegionFits coordinates.now) regions.now) }
+{
+    regions.iter().all(|r| {
+        r.count <= u16::MAX as u32
+            && r.within(coordinates.len())
+            && numbers_ascend(r.of(coordinates))
+    })
 }
 
-#[derive(Clone, Copy)]
-pub struct RegionTest<'a> {
-    pub coordinates: &'a [Coordinate],
+// Whether the region of each entry is one of so many, and its values begin within so many.
+pub fn entries_fit(entries: &[Entry], regions: usize, values: usize) -> bool
+    ensures { Decides result (AllByRecursion (EntryFits regions values) entries.now) }
+{
+    entries.iter().all(|e| (e.region as usize) < regions && e.place as usize <= values)
 }
 
-impl Test for RegionTest<'_> {
-    type Record = Span;
-
-    ghost Passes = { λ t r. RegionFits t.coordinates.now r };
-
-    fn passes(&self, x: &Span) -> bool {
-        if x.count > 65535 || !span_within(*x, self.coordinates.len()) {
-            return false;
-        }
-        part_ascends(self.coordinates, *x)
-    }
+// Whether a set's entries lie within the list, their region numbers strictly ascend, and the values of each lie within so many.
+fn set_fits(set: &DeltaSet, entries: &[Entry], values: usize) -> bool
+    ensures { Decides result (SetFits entries.now values set.now) }
+{
+    let own = set.entries.of(entries);
+    set.entries.within(entries.len())
+        && numbers_ascend(own)
+        && own
+            .iter()
+            .all(|e| e.place as u64 + set.tuple_len as u64 <= values as u64)
 }
 
-#[derive(Clone, Copy)]
-pub struct EntryTest {
-    pub regions: usize,
-    pub values: usize,
-}
-
-impl Test for EntryTest {
-    type Record = Entry;
-
-    ghost Passes = { λ t e. EntryFits t.regions t.values e };
-
-    fn passes(&self, x: &Entry) -> bool {
-        (x.region as usize) < self.regions && x.place as usize <= self.values
-    }
-}
-
-#[derive(Clone, Copy)]
-pub struct TupleTest {
-    pub tuple_len: u32,
-    pub values: usize,
-}
-
-impl Test for TupleTest {
-    type Record = Entry;
-
-    ghost Passes = { λ t e. Tuple t.tuple_len t.values e };
-
-    fn passes(&self, x: &Entry) -> bool {
-        x.place as u64 + self.tuple_len as u64 <= self.values as u64
-    }
-}
-
-#[derive(Clone, Copy)]
-pub struct SetTest<'a> {
-    pub entries: &'a [Entry],
-    pub values: usize,
-}
-
-impl Test for SetTest<'_> {
-    type Record = DeltaSet;
-
-    ghost Passes = { λ t s. SetFits t.entries.now t.values s };
-
-    fn passes(&self, x: &DeltaSet) -> bool {
-        if !span_within(x.entries, self.entries.len()) {
-            return false;
-        }
-        if !part_ascends(self.entries, x.entries) {
-            return false;
-        }
-        part_passes(
-            &TupleTest {
-                tuple_len: x.tuple_len,
-                values: self.values,
-            },
-            self.entries,
-            x.entries,
-        )
-    }
+// Whether each set fits.
+pub fn sets_fit(sets: &[DeltaSet], entries: &[Entry], values: usize) -> bool
+    ensures { Decides result (AllByRecursion (SetFits entries.now values) sets.now) }
+{
+    sets.iter().all(|s| set_fits(s, entries, values))
 }
 
 // Whether an id is the sentinel or the place of a set.
 pub fn known(id: TemporaryDeltaSetId, sets: usize) -> bool
     ensures { Decides result (Known sets id) }
 {
-    id.0 == 0xFFFFFFFF || (id.0 as usize) < sets
+    id.0 == NO_VARIATION_INDEX || (id.0 as usize) < sets
 }
 
-pub fn known_if_any(id: Option<TemporaryDeltaSetId>, sets: usize) -> bool
-    ensures { Decides result (IfSome id (Known sets)) }
+// Whether the axis values of a component lie within the pairs, and their axis numbers strictly ascend.
+fn axes_fit(axes: Span, pairs: &[Pair]) -> bool
+    ensures { Decides result (AxesFit pairs.now axes) }
 {
-    match id {
-        None => true,
-        Some(id) => known(id, sets),
-    }
+    axes.within(pairs.len()) && numbers_ascend(axes.of(pairs))
 }
 
-fn axes_fit(s: Span, pairs: &[Pair]) -> bool
-    ensures { Decides result (AxesFit pairs.now s) }
+// Whether a component's gid is one, its axis values fit, and its ids are known.
+fn component_fits(component: &Component, pairs: &[Pair], sets: usize) -> bool
+    ensures { Decides result (ComponentFits pairs.now sets component.now) }
 {
-    span_within(s, pairs.len()) && part_ascends(pairs, s)
+    component.gid <= 0xFFFFFF
+        && component.axes.is_none_or(|axes| axes_fit(axes, pairs))
+        && component.axis_values_var.is_none_or(|id| known(id, sets))
+        && component.transform_var.is_none_or(|id| known(id, sets))
 }
 
-fn axes_fit_if_any(s: Option<Span>, pairs: &[Pair]) -> bool
-    ensures { Decides result (IfSome s (AxesFit pairs.now)) }
+// Whether each component fits.
+pub fn components_fit(components: &[Component], pairs: &[Pair], sets: usize) -> bool
+    ensures { Decides result (AllByRecursion (ComponentFits pairs.now sets) components.now) }
 {
-    match s {
-        None => true,
-        Some(s) => axes_fit(s, pairs),
-    }
-}
-
-#[derive(Clone, Copy)]
-pub struct ComponentTest<'a> {
-    pub pairs: &'a [Pair],
-    pub sets: usize,
-}
-
-impl Test for ComponentTest<'_> {
-    type Record = Component;
-
-    ghost Passes = { λ t c. ComponentFits t.pairs.now t.sets c };
-
-    fn passes(&self, x: &Component) -> bool {
-        x.gid <= 0xFFFFFF
-            && axes_fit_if_any(x.axes, self.pairs)
-            && known_if_any(x.axis_values_var, self.sets)
-            && known_if_any(x.transform_var, self.sets)
-    }
+    components.iter().all(|c| component_fits(c, pairs, sets))
 }

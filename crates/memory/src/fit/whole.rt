@@ -1,11 +1,10 @@
 // The whole test.
 ghost use Rattle.std.specs.Prelude.{◌≡◌, IfSome, Decides};
-ghost use Rattle.memory.specs.Fit.{Counted, Sound, Fits, MarkFits};
+ghost use Rattle.memory.specs.Fit.{Counted, Sound, MarkFits};
 ghost use Rattle.memory.specs.Lists.{held, lists, seen};
 
-use crate::fit::each::all_pass;
 use crate::fit::groups::groups_fit;
-use crate::fit::kinds::{ComponentTest, EntryTest, RegionTest, SetTest, SpanTest};
+use crate::fit::kinds::{components_fit, entries_fit, regions_fit, sets_fit, spans_within};
 use crate::memory::{Counts, Filled, Mark, Memory};
 
 pub fn counted(n: &Counts, mem: &Memory<'_>) -> bool
@@ -42,59 +41,24 @@ pub fn filled<'b>(n: &Counts, mem: &'b Memory<'_>) -> Filled<'b>
 pub fn mark_fits(mark: Option<Mark>, f: &Filled<'_>) -> bool
     ensures { Decides result (IfSome mark (MarkFits (seen f.now))) }
 {
-    match mark {
-        None => true,
-        Some(m) => {
-            !f.composites.is_empty()
-                && m.components as usize <= f.components.len()
-                && m.pairs as usize <= f.pairs.len()
-        }
-    }
+    mark.is_none_or(|m| {
+        !f.composites.is_empty()
+            && m.components as usize <= f.components.len()
+            && m.pairs as usize <= f.pairs.len()
+    })
 }
 
+// Whether the filled part is as it should be.
 pub fn sound(mark: Option<Mark>, f: &Filled<'_>) -> bool
     ensures { Decides result (Sound mark (seen f.now)) }
 {
-    f.regions.len() <= 65535
-        && all_pass(
-            &RegionTest {
-                coordinates: f.coordinates,
-            },
-            f.regions,
-        )
-        && all_pass(
-            &EntryTest {
-                regions: f.regions.len(),
-                values: f.values.len(),
-            },
-            f.entries,
-        )
-        && all_pass(
-            &SetTest {
-                entries: f.entries,
-                values: f.values.len(),
-            },
-            f.sets,
-        )
-        && all_pass(
-            &ComponentTest {
-                pairs: f.pairs,
-                sets: f.sets.len(),
-            },
-            f.components,
-        )
-        && all_pass(
-            &SpanTest {
-                filled: f.components.len(),
-            },
-            f.composites,
-        )
-        && all_pass(
-            &SpanTest {
-                filled: f.pairs.len(),
-            },
-            f.axis_lists,
-        )
+    f.regions.len() <= u16::MAX as usize
+        && regions_fit(f.regions, f.coordinates)
+        && entries_fit(f.entries, f.regions.len(), f.values.len())
+        && sets_fit(f.sets, f.entries, f.values.len())
+        && components_fit(f.components, f.pairs, f.sets.len())
+        && spans_within(f.composites, f.components.len())
+        && spans_within(f.axis_lists, f.pairs.len())
         && groups_fit(f.entries, f.sets)
         && mark_fits(mark, f)
 }

@@ -11,4 +11,4 @@ bounds-self-i c = simp length-map at c.requires
 
 pub returns : goal.returns
 returns c =
-    key_made c.args.self.now.entries.now c.args.self.now.sets.now c.args.i _ (record { entries = c.any_part.result }) (simp length-map at c.requires) c.any_part.ensures
+    key_made c.args.self.now.entries.now c.args.self.now.sets.now c.args.i _ (record { entries = c.of.result }) (simp length-map at c.requires) c.of.ensures
