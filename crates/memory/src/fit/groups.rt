@@ -2,11 +2,14 @@
 ghost use Rattle.std.specs.Prelude.{◌≡◌, ℕ, List, map, Decides};
 ghost use Rattle.keys.specs.Lent.{lent};
 ghost use Rattle.keys.specs.Sameness.{lists, numbers};
-ghost use Rattle.memory.specs.Groups.{GroupsFit, like, region_lists};
+ghost use Rattle.memory.specs.Groups.{GroupsFit, like, region_lists, set_regions};
 ghost use Rattle.memory.specs.Lists.{part};
 
 use crate::records::{DeltaSet, Entry};
 use keys::{Bank, Key, find};
+
+// The most groups, and the most sets of a group.
+const MOST: usize = u16::MAX as usize;
 
 // The entries of a set, told apart by their region numbers.
 #[derive(Clone, Copy)]
@@ -22,15 +25,8 @@ impl Key for RegionList<'_> {
     ghost sameness = { lists numbers };
 
     fn same(&self, other: &Self) -> bool {
-        if self.entries.len() != other.entries.len() {
-            return false;
-        }
-        for i in 0..self.entries.len() {
-            if self.entries[i].region != other.entries[i].region {
-                return false;
-            }
-        }
-        true
+        let regions = self.entries.iter().map(|e| e.region);
+        regions.eq(other.entries.iter().map(|e| e.region))
     }
 }
 
@@ -51,51 +47,47 @@ impl<'a> Bank for SetRegions<'a> {
     }
 
     fn key_at(&self, i: usize) -> RegionList<'a> {
+        self.key_of(&self.sets[i])
+    }
+}
+
+impl<'a> SetRegions<'a> {
+    // The region numbers of a set.
+    fn key_of(&self, set: &DeltaSet) -> RegionList<'a>
+        ensures { map (λ e. e.region) result.entries.now ≡ set_regions self.now.entries.now set.now }
+    {
         RegionList {
-            entries: self.sets[i].entries.of(self.entries),
+            entries: set.entries.of(self.entries),
         }
     }
-}
 
-// How many sets have these region numbers.
-fn like<'a>(bank: &SetRegions<'a>, key: &RegionList<'a>) -> usize
-    ensures { result ≡ like (map (λ e. e.region) key.now.entries.now) (region_lists bank.now.entries.now bank.now.sets.now) }
-{
-    let mut count: usize = 0;
-    for i in 0..bank.len() {
-        if !bank.key_at(i).same(key) {
-            continue;
-        }
-        count += 1;
+    // How many sets have these region numbers.
+    fn like(&self, key: &RegionList<'_>) -> usize
+        ensures { result ≡ like (map (λ e. e.region) key.now.entries.now) (region_lists self.now.entries.now self.now.sets.now) }
+    {
+        let keys = self.sets.iter().map(|s| self.key_of(s));
+        keys.filter(|k| k.same(key)).count()
     }
-    count
-}
 
-// Whether the sets form no more than 65,535 groups of no more than 65,535 sets each. Each set looks for the first one of its
-// group from the front, where it mostly stands; the sets of a group are counted at its first.
-pub fn groups_fit<'a>(entries: &'a [Entry], sets: &'a [DeltaSet]) -> bool
-    ensures { Decides result (GroupsFit entries.now sets.now) }
-{
-    if sets.len() <= 65535 {
-        return true;
+    // Whether there are no more than 65,535 groups of no more than 65,535 sets each. Each set looks for the first one of its
+    // group from the front, where it mostly stands; the sets of a group are counted at its first.
+    pub fn groups_fit(&self) -> bool
+        ensures { Decides result (GroupsFit self.now.entries.now self.now.sets.now) }
+    {
+        if self.sets.len() <= MOST {
+            return true;
+        }
+        let mut groups: usize = 0;
+        for (i, set) in self.sets.iter().enumerate() {
+            let key = self.key_of(set);
+            if find(self, &key) != Some(i) {
+                continue;
+            }
+            groups += 1;
+            if groups > MOST || self.like(&key) > MOST {
+                return false;
+            }
+        }
+        true
     }
-    let bank = SetRegions { entries, sets };
-    let mut groups: usize = 0;
-    for i in 0..sets.len() {
-        let key = bank.key_at(i);
-        let Some(first) = find(&bank, &key) else {
-            continue;
-        };
-        if first < i {
-            continue;
-        }
-        groups += 1;
-        if groups > 65535 {
-            return false;
-        }
-        if like(&bank, &key) > 65535 {
-            return false;
-        }
-    }
-    true
 }

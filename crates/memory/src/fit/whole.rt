@@ -3,7 +3,7 @@ ghost use Rattle.std.specs.Prelude.{◌≡◌, IfSome, Decides};
 ghost use Rattle.memory.specs.Fit.{Counted, Sound, MarkFits};
 ghost use Rattle.memory.specs.Lists.{held, lists, seen};
 
-use crate::fit::groups::groups_fit;
+use crate::fit::groups::SetRegions;
 use crate::fit::kinds::{components_fit, entries_fit, regions_fit, sets_fit, spans_within};
 use crate::memory::{Counts, Filled, Mark, Memory};
 
@@ -59,6 +59,10 @@ pub fn sound(mark: Option<Mark>, f: &Filled<'_>) -> bool
         && components_fit(f.components, f.pairs, f.sets.len())
         && spans_within(f.composites, f.components.len())
         && spans_within(f.axis_lists, f.pairs.len())
-        && groups_fit(f.entries, f.sets)
+        && SetRegions {
+            entries: f.entries,
+            sets: f.sets,
+        }
+        .groups_fit()
         && mark_fits(mark, f)
 }

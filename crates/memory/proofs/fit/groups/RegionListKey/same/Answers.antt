@@ -1,15 +1,12 @@
-use Rattle.std.proofs.Common.{arith}
-use Rattle.memory.proofs.Groups.{longer, differ, agree, agreed}
+use Rattle.std.proofs.Common.{rules}
+use Rattle.std.proofs.lemmas.Iterator.{YieldsList-from_slice, YieldsList-from_map}
+use Rattle.std.proofs.lemmas.Bool.Decides.{Decides-eqb}
+use Rattle.memory.specs.declared.records.Entry.{Entry}
+use Rattle.memory.proofs.Equal.{eq_decides}
 use Rattle.memory.proofs.fit.groups.RegionListKey.same.Goals as goal
 
-pub returns-then-self-other : goal.returns-then-self-other
-returns-then-self-other c = longer _ _ c.if-self-other.true
-
-pub returns-then-self-i : goal.returns-then-self-i
-returns-then-self-i c = differ _ _ c.loop-i.i (record { region = 0; place = 0 }) (omega arith) (omega arith) c.if-self-i.true
-
-pub loop-i-preserved : goal.loop-i-preserved
-loop-i-preserved c = agree _ _ c.loop-i.i (record { region = 0; place = 0 }) (omega arith) (omega arith) c.if-self-i.false c.loop-i.invariant
-
 pub returns : goal.returns
-returns c = agreed _ _ c.loop-i.i (omega arith) (omega arith) c.loop-i.invariant
+returns c =
+    eq_decides _ c.eq.ensures.ran
+    (YieldsList-from_map _ (λ (e : Entry). e.region) (YieldsList-from_slice c.args.self.now.entries.now cc) c.map-regions.ensures.closure (λ x r q k. search rules))
+    (YieldsList-from_map _ (λ (e : Entry). e.region) (YieldsList-from_slice c.args.other.now.entries.now cc) c.map.ensures.closure (λ x r q k. search rules)) Decides-eqb
