@@ -17,7 +17,7 @@ pub struct Memory<'a> {
 }
 
 // How many records of each list are filled. What lies past them is free.
-#[derive(Clone, Copy)]
+#[derive(Clone, Copy, PartialEq, Eq, Default, Debug)]
 pub struct Counts {
     pub coordinates: u32,
     pub regions: u32,
@@ -31,7 +31,7 @@ pub struct Counts {
 }
 
 // Where the open composite was begun: the counts of components and of pairs then.
-#[derive(Clone, Copy)]
+#[derive(Clone, Copy, PartialEq, Eq, Debug)]
 pub struct Mark {
     pub components: u32,
     pub pairs: u32,

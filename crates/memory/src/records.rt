@@ -18,7 +18,7 @@ pub struct TemporaryDeltaSetId(pub u32);
 pub struct VariationIndex(pub u32);
 
 // A part of another list: of coordinates, entries, pairs or components.
-#[derive(Clone, Copy)]
+#[derive(Clone, Copy, PartialEq, Eq, Debug)]
 pub struct Span {
     pub place: u32,
     pub count: u32,
@@ -42,7 +42,7 @@ impl Span {
 }
 
 // A tuple of a delta set: its region's number, and where its values stand.
-#[derive(Clone, Copy)]
+#[derive(Clone, Copy, PartialEq, Eq, Debug)]
 pub struct Entry {
     pub region: u16,
     pub place: u32,
@@ -58,7 +58,7 @@ impl Numbered for Entry {
 }
 
 // A delta set: its entries, how many values each tuple has, and its slot, 0 until the job is built.
-#[derive(Clone, Copy)]
+#[derive(Clone, Copy, PartialEq, Eq, Debug)]
 pub struct DeltaSet {
     pub entries: Span,
     pub tuple_len: u32,
@@ -66,7 +66,7 @@ pub struct DeltaSet {
 }
 
 // An axis and its value (2.14).
-#[derive(Clone, Copy)]
+#[derive(Clone, Copy, PartialEq, Eq, Debug)]
 pub struct Pair {
     pub axis: u16,
     pub value: i16,

@@ -6,34 +6,34 @@ use std::fmt;
 
 #[derive(Clone, Copy, PartialEq, Eq, Debug)]
 pub enum Refusal {
-    // 1: the job does not fit the memory.
-    Memory,
-    // 2: the parts' counts do not add up to what was handed in.
-    PartCounts,
-    // 3: two parts differ in value count.
-    TupleLengths,
-    // 4: axis numbers do not strictly ascend.
-    AxisOrder,
-    // 5: the parts' regions do not get strictly ascending numbers.
-    RegionOrder,
-    // 6: a list would need more records than its memory, or more than 16,777,216.
-    NoRoom,
-    // 7: a 65,536th region, axis of a region, group, or set of a group would arise.
-    Limit,
-    // 8: gid above 0xFFFFFF.
-    GlyphId,
-    // 9: an id is neither the sentinel nor that of a set.
-    UnknownId,
-    // 10: a composite is open.
-    IsOpen,
-    // 11: none is open, or the token is of another one.
-    NotOpen,
-    // 12: coverage of fewer than 4 bytes.
-    Coverage,
-    // 13: the table would be longer than 268,435,455 bytes.
-    TooLong,
-    // 14: the sink can take fewer bytes than are needed.
-    SinkFull,
+    // The job does not fit the memory.
+    Memory = 1,
+    // The parts' counts do not add up to what was handed in.
+    PartCounts = 2,
+    // Two parts differ in value count.
+    TupleLengths = 3,
+    // Axis numbers do not strictly ascend.
+    AxisOrder = 4,
+    // The parts' regions do not get strictly ascending numbers.
+    RegionOrder = 5,
+    // A list would need more records than its memory, or more than 16,777,216.
+    NoRoom = 6,
+    // A 65,536th region, axis of a region, group, or set of a group would arise.
+    Limit = 7,
+    // gid above 0xFFFFFF.
+    GlyphId = 8,
+    // An id is neither the sentinel nor that of a set.
+    UnknownId = 9,
+    // A composite is open.
+    IsOpen = 10,
+    // None is open, or the token is of another one.
+    NotOpen = 11,
+    // Coverage of fewer than 4 bytes.
+    Coverage = 12,
+    // The table would be longer than 268,435,455 bytes.
+    TooLong = 13,
+    // The sink can take fewer bytes than are needed.
+    SinkFull = 14,
 }
 
 impl Refusal {
@@ -41,22 +41,7 @@ impl Refusal {
     pub fn number(self) -> u8
         ensures { result ≡ number self }
     {
-        match self {
-            Refusal::Memory => 1,
-            Refusal::PartCounts => 2,
-            Refusal::TupleLengths => 3,
-            Refusal::AxisOrder => 4,
-            Refusal::RegionOrder => 5,
-            Refusal::NoRoom => 6,
-            Refusal::Limit => 7,
-            Refusal::GlyphId => 8,
-            Refusal::UnknownId => 9,
-            Refusal::IsOpen => 10,
-            Refusal::NotOpen => 11,
-            Refusal::Coverage => 12,
-            Refusal::TooLong => 13,
-            Refusal::SinkFull => 14,
-        }
+        self as u8
     }
 }
 
