@@ -3,10 +3,9 @@ use Rattle.std.specs.Prelude.{◌≡◌, ℕ, ◌+◌, ◌<◌, ◌≤◌, ◌�
 use Rattle.std.specs.List.{AllByRecursion}
 use Rattle.keys.specs.Numbers.{AscendingNumbers}
 use Rattle.memory.specs.Groups.{GroupsFit}
-use Rattle.memory.specs.Lists.{Lists, held, part}
+use Rattle.memory.specs.Lists.{Lists, Stored, held, part}
 use Rattle.memory.specs.declared.memory.Counts.{Counts}
 use Rattle.memory.specs.declared.memory.Mark.{Mark}
-use Rattle.memory.specs.declared.records.Component.{Component}
 use Rattle.format.specs.declared.Coordinate.{Coordinate}
 use Rattle.memory.specs.declared.records.DeltaSet.{DeltaSet}
 use Rattle.memory.specs.declared.records.Entry.{Entry}
@@ -44,7 +43,7 @@ pub record AxesFit (pairs : List Pair) (s : Span) : Type 0 where
 abbrev pub Known : ℕ → TemporaryDeltaSetId → Type 0
 Known sets id = (id.0 ≡ 0xFFFFFFFF) ⊎ (id.0 < sets)
 
-pub record ComponentFits (pairs : List Pair) (sets : ℕ) (c : Component) : Type 0 where
+pub record ComponentFits (pairs : List Pair) (sets : ℕ) (c : Stored) : Type 0 where
   pub gid : c.gid ≤ 0xFFFFFF
   pub axes : IfSome c.axes (AxesFit pairs)
   pub axis_values_var : IfSome c.axis_values_var (Known sets)

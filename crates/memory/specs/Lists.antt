@@ -6,9 +6,14 @@ use Rattle.memory.specs.declared.records.DeltaSet.{DeltaSet}
 use Rattle.memory.specs.declared.records.Entry.{Entry}
 use Rattle.memory.specs.declared.records.Pair.{Pair}
 use Rattle.memory.specs.declared.records.Span.{Span}
+use Rattle.memory.specs.declared.records.TemporaryDeltaSetId.{TemporaryDeltaSetId}
 use Rattle.memory.specs.declared.memory.Memory.{Memory}
 use Rattle.memory.specs.declared.memory.Counts.{Counts}
 use Rattle.memory.specs.declared.memory.Filled.{Filled}
+
+-- a component as a job holds it: its axis values are a part of the list of pairs, its variations go by temporary ids
+abbrev pub Stored : Type 0
+Stored = Component Span TemporaryDeltaSetId
 
 pub record Lists : Type 0 where
   pub coordinates : List Coordinate
@@ -17,7 +22,7 @@ pub record Lists : Type 0 where
   pub entries : List Entry
   pub sets : List DeltaSet
   pub pairs : List Pair
-  pub components : List Component
+  pub components : List Stored
   pub composites : List Span
   pub axis_lists : List Span
 

@@ -81,14 +81,15 @@ impl Numbered for Pair {
     }
 }
 
-// A component: the axis values stand in the list of pairs, the two variations go by temporary ids.
+// A component. Its axis values are a part of the list of pairs and its two variations go by temporary ids, where it is not said
+// otherwise.
 #[derive(Clone, Copy)]
-pub struct Component {
+pub struct Component<A = Span, V = TemporaryDeltaSetId> {
     pub reset_unspecified_axes: bool,
     pub gid: u32,
     pub condition: Option<u32>,
-    pub axes: Option<Span>,
-    pub axis_values_var: Option<TemporaryDeltaSetId>,
-    pub transform_var: Option<TemporaryDeltaSetId>,
+    pub axes: Option<A>,
+    pub axis_values_var: Option<V>,
+    pub transform_var: Option<V>,
     pub transform: Transform,
 }
