@@ -8,7 +8,6 @@ ghost use Rattle.deltas.specs.Regions.{has_peak, kept, region_sameness, held, re
 use format::Coordinate;
 use keys::{Bank, Key, Sought, find};
 use memory::Span;
-use memory::fit::each::any_part;
 
 // Whether a coordinate has a peak.
 pub fn peaks(c: &Coordinate) -> bool
@@ -92,7 +91,7 @@ impl<'a> Bank for HeldRegions<'a> {
 
     fn key_at(&self, i: usize) -> HeldRegion<'a> {
         HeldRegion {
-            coordinates: any_part(self.coordinates, self.regions[i]),
+            coordinates: self.regions[i].of(self.coordinates),
         }
     }
 }
