@@ -1,13 +1,12 @@
 -- What the calls leave.
 use Rattle.std.proofs.Common.{◌≡◌, ℕ, ◌+◌, ◌-◌, ◌<◌, ◌≤◌, List, [], ◌∷◌, ◌++◌, length, take, set, IfSome, Some, None, Option, sym, ap, ◌∙◌, subst, arith}
 use Rattle.std.proofs.lemmas.List.{take_more_set, take-take, length-take-le}
-use Rattle.memory.specs.Lists.{Lists, held}
+use Rattle.memory.specs.Lists.{Stored, Lists, held}
 use Rattle.memory.specs.Fit.{MarkFits}
 use Rattle.job.specs.Outcome.{State, state, JobFits, Room}
 use Rattle.job.specs.Composites.{Given, listed, spanned, with_counts, with_composites, begun, added, closed, closed_at, cancelled, cancelled_at}
 use Rattle.job.specs.declared.state.Job.{Job}
 use Rattle.memory.specs.declared.memory.Mark.{Mark}
-use Rattle.memory.specs.declared.records.Component.{Component}
 use Rattle.memory.specs.declared.records.Pair.{Pair}
 use Rattle.memory.specs.declared.records.Span.{Span}
 
@@ -20,7 +19,7 @@ take_last_set n xs x some fits =
     ap (λ k. take k (set xs (n - 1) x)) e ∙ take_more_set xs (n - 1) x l ∙ ap (λ ys. ys ++ (x ∷ [])) (sym (take-take (n - 1) n xs b))
 
 -- the record of a component whose pairs stand there
-abbrev with_axes : Option Span → Given → Component
+abbrev with_axes : Option Span → Given → Stored
 with_axes axes g = record {
   reset_unspecified_axes = g.reset;
   gid = g.gid;
@@ -53,7 +52,7 @@ module _ (j : Job) (l : Lists) (fits : JobFits j l) where
   component_leaves g new ps axes New-is axes-is within e =
       let b : j.counts.components < length l.components = omega arith in
       let J : ℕ → Job = λ k. record { number = j.number; counts = with_counts (j.counts.pairs + k) (j.counts.components + 1) j.counts.composites j.counts; mark = j.mark } in
-      let H : ℕ → List Pair → List Component → State = λ k qs cs. record { job = J k; held = with_composites qs cs (held j.counts l).composites (held j.counts l) } in
+      let H : ℕ → List Pair → List Stored → State = λ k qs cs. record { job = J k; held = with_composites qs cs (held j.counts l).composites (held j.counts l) } in
       ap (λ qs. H (length new) qs (take (j.counts.components + 1) (set l.components j.counts.components (with_axes axes g)))) e
       ∙ ap (λ cs. H (length new) ((held j.counts l).pairs ++ new) cs) (take_more_set l.components j.counts.components _ b)
       ∙ ap (λ xs. H (length xs) ((held j.counts l).pairs ++ xs) ((held j.counts l).components ++ (with_axes axes g ∷ []))) New-is

@@ -3,14 +3,13 @@ use Rattle.std.proofs.Common.{◌≡◌, ℕ, ◌-◌, ◌≤◌, List, [], ◌�
 use Rattle.std.proofs.lemmas.List.{length-take-le, length-append, length_push, take_at, take-append-le}
 use Rattle.std.proofs.lemmas.Option.{IfSome_then}
 use Rattle.std.proofs.ByRecursion.{All-push, All-weaker, All-take}
-use Rattle.memory.specs.Lists.{Lists, held}
+use Rattle.memory.specs.Lists.{Stored, Lists, held}
 use Rattle.memory.specs.Fit.{Sound, MarkFits, ComponentFits, AxesFit, Within}
 use Rattle.keys.specs.Numbers.{AscendingNumbers}
 use Rattle.job.specs.Outcome.{State, state, JobFits}
 use Rattle.job.specs.Composites.{Given, listed, spanned, stored, IdsKnown, begun, added, closed, closed_at, cancelled_at, BelowMark, Below}
 use Rattle.job.specs.declared.state.Job.{Job}
 use Rattle.memory.specs.declared.memory.Mark.{Mark}
-use Rattle.memory.specs.declared.records.Component.{Component}
 use Rattle.memory.specs.declared.records.Pair.{Pair}
 use Rattle.memory.specs.declared.records.Span.{Span}
 use Rattle.std.specs.List.{AllByRecursion}
@@ -36,7 +35,7 @@ module _ (ps new : List Pair) where
         ascends = subst (λ xs. AscendingNumbers (map (λ p. p.axis) xs)) (sym (part-more s ps new h.within)) h.ascends;
       }
 
-  component-more : (sets : ℕ) (c : Component) → ComponentFits ps sets c → ComponentFits (ps ++ new) sets c
+  component-more : (sets : ℕ) (c : Stored) → ComponentFits ps sets c → ComponentFits (ps ++ new) sets c
   component-more sets c h =
       record { gid = h.gid; axes = IfSome_then c.axes h.axes axes_more; axis_values_var = h.axis_values_var; transform_var = h.transform_var }
 
@@ -87,7 +86,7 @@ module _ (j : Job) (l : Lists) (fits : JobFits j l) where
   added_sound g order gid ids =
       let s = fits.sound in
       let new = listed g.axes in
-      let c : Component = stored j.counts.pairs g in
+      let c : Stored = stored j.counts.pairs g in
       let longer = length-append H.pairs new in
       let more = length_push H.components c in
       let k = subst (λ n. IdsKnown n g) (sym long_sets) ids in
@@ -169,7 +168,7 @@ module _ (j : Job) (l : Lists) (fits : JobFits j l) where
             axis_lists = h.axis_lists;
           }
 
-  axes_fewer : (m : Mark) (c : Component) (sets : ℕ) → m.pairs ≤ length K.pairs → ComponentFits K.pairs sets c → IfSome c.axes (Within m.pairs) → ComponentFits (take m.pairs K.pairs) sets c
+  axes_fewer : (m : Mark) (c : Stored) (sets : ℕ) → m.pairs ≤ length K.pairs → ComponentFits K.pairs sets c → IfSome c.axes (Within m.pairs) → ComponentFits (take m.pairs K.pairs) sets c
   axes_fewer m c sets le h w =
       record {
         gid = h.gid;

@@ -1,11 +1,12 @@
 -- Composites: begun, given components, closed or cancelled.
 use Rattle.std.specs.Prelude.{◌≡◌, ℕ, ◌+◌, ◌-◌, ◌≤◌, Bool, true, List, [], ◌∷◌, ◌++◌, map, length, take, is_some, IfSome, ℤ, Some, None, Option, Result}
+use Rattle.std.specs.Borrow.{Bor}
 use Rattle.std.specs.Option.{option_map}
 use Rattle.std.specs.List.{AllByRecursion}
 use Rattle.format.specs.declared.Transform.{Transform}
 use Rattle.keys.specs.Numbers.{AscendingNumbers}
 use Rattle.memory.specs.Fit.{Known, Within}
-use Rattle.memory.specs.Lists.{Lists}
+use Rattle.memory.specs.Lists.{Lists, Stored}
 use Rattle.memory.specs.declared.memory.Counts.{Counts}
 use Rattle.memory.specs.declared.memory.Mark.{Mark}
 use Rattle.memory.specs.declared.records.Component.{Component}
@@ -18,10 +19,9 @@ use Rattle.job.specs.Outcome.{Check, ◌unless◌, JobFits, State, state, Room, 
 use Rattle.job.specs.declared.state.Job.{Job}
 use Rattle.job.specs.declared.state.Kept.{Kept}
 use Rattle.job.specs.declared.state.OpenComposite.{OpenComposite}
-use Rattle.job.specs.declared.state.VarComponent.{VarComponent}
 
 -- the lists and counts of composites, components and pairs changed, and no others
-abbrev pub with_composites : List Pair → List Component → List Span → Lists → Lists
+abbrev pub with_composites : List Pair → List Stored → List Span → Lists → Lists
 with_composites ps cs os h =
     record {
       coordinates = h.coordinates;
@@ -97,7 +97,7 @@ pub record Given : Type 0 where
   pub transform_var : Option TemporaryDeltaSetId
   pub transform : Transform (Option ℤ)
 
-abbrev pub given : VarComponent → Given
+abbrev pub given : Component (Bor (List Pair)) TemporaryDeltaSetId → Given
 given c = record {
   reset = c.reset_unspecified_axes;
   gid = c.gid;
@@ -125,7 +125,7 @@ pub record Opens (j : Job) (t : OpenComposite) : Type 0 where
   pub last : t.composite + 1 ≡ j.counts.composites
 
 -- the record of a component whose pairs stand from a place on
-abbrev pub stored : ℕ → Given → Component
+abbrev pub stored : ℕ → Given → Stored
 stored at g = record {
   reset_unspecified_axes = g.reset;
   gid = g.gid;

@@ -1,6 +1,5 @@
 // A job, and the token of an open composite: plain numbers.
-use format::Transform;
-use memory::{Counts, Mark, Pair, Refusal, TemporaryDeltaSetId};
+use memory::{Component, Counts, Mark, Pair, Refusal};
 
 pub mod calls;
 
@@ -24,14 +23,5 @@ pub struct Kept {
     pub refusal: Refusal,
 }
 
-// A component as it is handed in.
-#[derive(Clone, Copy)]
-pub struct VarComponent<'a> {
-    pub reset_unspecified_axes: bool,
-    pub gid: u32,
-    pub condition: Option<u32>,
-    pub axes: Option<&'a [Pair]>,
-    pub axis_values_var: Option<TemporaryDeltaSetId>,
-    pub transform_var: Option<TemporaryDeltaSetId>,
-    pub transform: Transform,
-}
+// A component as it is handed in: with its axis values.
+pub type VarComponent<'a> = Component<&'a [Pair]>;

@@ -8,7 +8,7 @@ ghost use Rattle.job.specs.Outcome.{FirstOf, NoneOf, JobFits, Room, state};
 
 use crate::state::{Job, Kept, OpenComposite, VarComponent};
 use keys::numbers_ascend;
-use memory::fit::kinds::known_if_any;
+use memory::fit::kinds::known;
 use memory::{Component, Counts, Mark, Memory, Pair, Refusal, Span, fits};
 
 // The most records of a list.
@@ -20,20 +20,9 @@ impl Job {
         ensures fresh { result ≡ fresh number }
         ensures fits { (l : Lists) → JobFits result l }
     {
-        let counts = Counts {
-            coordinates: 0,
-            regions: 0,
-            values: 0,
-            entries: 0,
-            sets: 0,
-            pairs: 0,
-            components: 0,
-            composites: 0,
-            axis_lists: 0,
-        };
         Job {
             number,
-            counts,
+            counts: Counts::default(),
             mark: None,
         }
     }
@@ -256,7 +245,8 @@ fn pairs_of<'a>(axes: Option<&'a [Pair]>) -> &'a [Pair]
 fn ids_known(component: &VarComponent<'_>, sets: usize) -> bool
     ensures { Decides result (IdsKnown sets (given component.now)) }
 {
-    known_if_any(component.axis_values_var, sets) && known_if_any(component.transform_var, sets)
+    component.axis_values_var.is_none_or(|id| known(id, sets))
+        && component.transform_var.is_none_or(|id| known(id, sets))
 }
 
 // Whether n records more find room.
