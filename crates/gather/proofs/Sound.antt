@@ -3,13 +3,13 @@ use Rattle.std.proofs.Common.{◌≡◌, ℕ, suc, ◌+◌, ◌<◌, ◌≤◌, 
 use Rattle.std.proofs.lemmas.Option.{IfSome_then}
 use Rattle.std.proofs.ByRecursion.{All-append, All-weaker, all_kept_by}
 use Rattle.std.proofs.lemmas.List.{append_assoc, length-append, length-take-le, length-drop}
+use Rattle.std.proofs.lemmas.List.Sums.{sum_by-cons}
 use Rattle.std.specs.List.{flat_map, AllByRecursion}
 use Rattle.format.specs.declared.Coordinate.{Coordinate}
 use Rattle.keys.specs.Numbers.{AscendingNumbers}
 use Rattle.memory.specs.Fit.{Sound, RegionFits, EntryFits, SetFits, ComponentFits, Known, Tuple}
-use Rattle.memory.specs.Lists.{Lists, part}
+use Rattle.memory.specs.Lists.{Stored, Lists, part}
 use Rattle.memory.specs.declared.memory.Mark.{Mark}
-use Rattle.memory.specs.declared.records.Component.{Component}
 use Rattle.memory.specs.declared.records.DeltaSet.{DeltaSet}
 use Rattle.memory.specs.declared.records.Entry.{Entry}
 use Rattle.memory.specs.declared.records.Span.{Span}
@@ -109,7 +109,7 @@ set_new es values width at ts s at-end long order widths l =
 known_more : (m n : ℕ) → m ≤ n → (id : TemporaryDeltaSetId) → Known m id → Known n id
 known_more m n le id h = ⊎_elim inl (λ l. inr (omega arith)) h
 
-component-more : (pairs : List _) (m n : ℕ) → m ≤ n → (c : Component) → ComponentFits pairs m c → ComponentFits pairs n c
+component-more : (pairs : List _) (m n : ℕ) → m ≤ n → (c : Stored) → ComponentFits pairs m c → ComponentFits pairs n c
 component-more pairs m n le c h =
     record {
       gid = h.gid;
@@ -123,10 +123,11 @@ component-more pairs m n le c h =
 tuples_level : (width : ℕ) (ps : List Part) (cs : List Coordinate) (vs : List ℤ) → AllByRecursion (λ p. p.values ≡ width) ps → values_total ps ≡ length vs →
     AllByRecursion (λ t. length t.tuple ≡ width) (tuples ps cs vs)
 tuples_level width [] cs vs w e = tt
-tuples_level width (p ∷ ps) cs vs w e = (
-  length-take-le p.values vs (omega arith) ∙ w.0,
-  tuples_level width ps (drop p.axes cs) (drop p.values vs) w.1 (omega (arith, length-drop p.values vs)),
-)
+tuples_level width (p ∷ ps) cs vs w e =
+    let e' : p.values + values_total ps ≡ length vs = sym (sum_by-cons (λ q. q.values) p ps) ∙ e in (
+      length-take-le p.values vs (omega arith) ∙ w.0,
+      tuples_level width ps (drop p.axes cs) (drop p.values vs) w.1 (omega (arith, length-drop p.values vs)),
+    )
 
 under-tuples : (P : List ℤ → Type 0) (ns : List ℕ) (ts : List RegionTuple) → AllByRecursion (λ t. P t.tuple) ts → AllByRecursion (λ t. P t.tuple) (under ns ts)
 under-tuples P [] ts h = tt

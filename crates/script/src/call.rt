@@ -1,7 +1,7 @@
 // The calls of a script.
 use deltas::Part;
-use format::{Coordinate, Transform};
-use memory::{Pair, Span};
+use format::Coordinate;
+use memory::{Component, Pair, Span};
 
 // A delta set's call: its parts, and the coordinates and values that they lie on, each a span of the script's lists.
 #[derive(Clone, Copy)]
@@ -21,16 +21,7 @@ pub enum Id {
 }
 
 // A component's call. Its axis values are a span of the script's pairs.
-#[derive(Clone, Copy)]
-pub struct Stroke {
-    pub reset_unspecified_axes: bool,
-    pub gid: u32,
-    pub condition: Option<u32>,
-    pub axes: Option<Span>,
-    pub axis_values_var: Option<Id>,
-    pub transform_var: Option<Id>,
-    pub transform: Transform,
-}
+pub type Stroke = Component<Span, Id>;
 
 #[derive(Clone, Copy)]
 pub enum Call {
