@@ -1,4 +1,3 @@
-pub mod BySize
 pub mod Places
 pub mod Tables
 pub mod Orders

@@ -1,12 +1,11 @@
 -- Tables of different keys, as they grow.
-use Rattle.std.proofs.Common.{◌≡◌, ℕ, suc, ◌<◌, Bool, true, false, cond, ◌||◌, List, [], ◌∷◌, ◌++◌, length, get_or, is_some, Some, None, Option, sym, refl, ap, ◌∙◌, subst, ⊎_elim, arith}
-use Rattle.std.specs.Option.{option_map}
+use Rattle.std.proofs.Common.{◌≡◌, ℕ, suc, ◌<◌, Bool, true, false, cond, ◌||◌, List, [], ◌∷◌, ◌++◌, length, get_or, is_some, Some, None, Ok, Option, sym, refl, ap, ◌∙◌, subst, ⊎_elim, arith}
+use Rattle.std.specs.Option.{option_map, ok_or}
 use Rattle.std.proofs.lemmas.List.{append_assoc, append-nil, length_push, get_or_push, get_or_append_left, get_or_default}
 use Rattle.std.proofs.lemmas.Bool.{cases_lt, or_right, cond-true, cond-false}
 use Rattle.std.proofs.lemmas.Bool.Decides.{same_from_decides, Decides-like}
 use Rattle.keys.specs.Sameness.{Sameness}
-use Rattle.keys.specs.Places.{FirstAt, Nowhere, First, Distinct, known_or_new, number, place, placed, with_key, grown, without, firsts, TableLaws}
-use Rattle.keys.specs.declared.bank.Placed.TheVariants.{Known}
+use Rattle.keys.specs.Places.{FirstAt, Nowhere, First, Distinct, number, place, placed, with_key, grown, without, firsts, TableLaws}
 use Rattle.keys.proofs.Places.{place_first, first_is_place}
 
 -- a place in a list with one more at its end
@@ -39,11 +38,11 @@ module _ {M : Type 0} (ks : List M) (key : M) where
 module _ {M : Type 0} (same : Sameness M) where
   -- by whether the key is there
   module _ (ks : List M) (key : M) where
-    found_by : (p : Option ℕ) → place same ks key ≡ p → First ks key p → placed same (cond (is_some p) ks (ks ++ key ∷ [])) key ≡ Known (number (known_or_new (length ks) p))
-    found_by (Some i) e h = ap (known_or_new (length ks)) e
-    found_by None e h = ap (known_or_new (length (ks ++ key ∷ []))) (sym (first_is_place same (ks ++ key ∷ []) key (Some (length ks)) (first_new ks key h)))
+    found_by : (p : Option ℕ) → place same ks key ≡ p → First ks key p → placed same (cond (is_some p) ks (ks ++ key ∷ [])) key ≡ Ok (number (ok_or p (length ks)))
+    found_by (Some i) e h = ap (λ q. ok_or q (length ks)) e
+    found_by None e h = ap (λ q. ok_or q (length (ks ++ key ∷ []))) (sym (first_is_place same (ks ++ key ∷ []) key (Some (length ks)) (first_new ks key h)))
 
-    pub found : placed same (with_key same ks key) key ≡ Known (number (placed same ks key))
+    pub found : placed same (with_key same ks key) key ≡ Ok (number (placed same ks key))
     found = found_by (place same ks key) refl (place_first same ks key)
 
     stays_by : (k : M) (i : ℕ) → FirstAt ks k i → (b : Bool) → place same (cond b ks (ks ++ key ∷ [])) k ≡ Some i

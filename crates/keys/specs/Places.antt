@@ -1,9 +1,7 @@
 -- Where keys first came. Each list here is a list of what keys mean.
-use Rattle.std.specs.Prelude.{◌≡◌, ℕ, suc, ◌<◌, cond, List, [], ◌∷◌, ◌++◌, length, get_or, is_some, Some, None, Option, ◌≢◌, slice_index_or}
-use Rattle.std.specs.Option.{option_map}
+use Rattle.std.specs.Prelude.{◌≡◌, ℕ, suc, ◌<◌, cond, List, [], ◌∷◌, ◌++◌, length, get_or, is_some, Some, None, Ok, Err, Option, Result, ◌≢◌, slice_index_or}
+use Rattle.std.specs.Option.{option_map, ok_or}
 use Rattle.keys.specs.Sameness.{Sameness}
-use Rattle.keys.specs.declared.bank.Placed.{Placed}
-use Rattle.keys.specs.declared.bank.Placed.TheVariants.{Known, New}
 
 -- The key stands at place i, and at no place before it.
 pub record FirstAt {M : Type 0} (keys : List M) (key : M) (i : ℕ) : Type 0 where
@@ -24,15 +22,10 @@ First keys key None = Nowhere keys key
 pub record Distinct {M : Type 0} (keys : List M) : Type 0 where
   pub apart : (i j : ℕ) (d : M) → i < j → j < length keys → slice_index_or keys i d ≢ slice_index_or keys j d
 
--- A key that is there keeps its place; a new one takes the next.
-abbrev pub known_or_new : ℕ → Option ℕ → Placed
-known_or_new next (Some i) = Known i
-known_or_new next None = New next
-
 -- The place in either case.
-abbrev pub number : Placed → ℕ
-number (Known i) = i
-number (New i) = i
+abbrev pub number : Result ℕ ℕ → ℕ
+number (Ok i) = i
+number (Err i) = i
 
 module _ {M : Type 0} (same : Sameness M) where
   -- The first place whose key means the same as this one.
@@ -40,9 +33,10 @@ module _ {M : Type 0} (same : Sameness M) where
   place [] key = None
   place (k ∷ ks) key = cond (same.test k key) (Some 0) (option_map suc (place ks key))
 
-  -- The place that a key has or takes.
-  abbrev pub placed : List M → M → Placed
-  placed keys key = known_or_new (length keys) (place keys key)
+  -- The place of a key: `Ok` where it stands, or `Err` where it is not there and takes the next place, this one, once it is
+  -- appended.
+  abbrev pub placed : List M → M → Result ℕ ℕ
+  placed keys key = ok_or (place keys key) (length keys)
 
   -- The keys after one more came: only a new one is appended.
   abbrev pub with_key : List M → M → List M
@@ -66,7 +60,7 @@ module _ {M : Type 0} (same : Sameness M) where
   -- What a table of keys keeps as it grows.
   pub record TableLaws : Type 0 where
     -- a key that came is found from then on, at the place that it had or took
-    pub found : (keys : List M) (key : M) → placed (with_key keys key) key ≡ Known (number (placed keys key))
+    pub found : (keys : List M) (key : M) → placed (with_key keys key) key ≡ Ok (number (placed keys key))
     -- a place found once stays, whatever comes afterwards
     pub stays : (keys more : List M) (key : M) (i : ℕ) → place keys key ≡ Some i → place (grown keys more) key ≡ Some i
     -- no two keys mean the same, if none did before

@@ -1,7 +1,9 @@
 -- When two keys mean the same.
-use Rattle.std.specs.Prelude.{◌≡◌, ℕ, Bool, true, false, ◌&&◌, List, [], ◌∷◌, ℤ, pos, negsuc, Decides, ◌==◌, refl}
+use Rattle.std.specs.Prelude.{◌≡◌, ℕ, Bool, false, ◌&&◌, List, ℤ, pos, negsuc, Decides, ◌==◌, refl}
 use Rattle.std.proofs.Common.{sym, ap, ◌∙◌}
 use Rattle.std.proofs.lemmas.Bool.{false≢true}
+use Rattle.std.proofs.lemmas.Slice.Eq.{slice_eq-Decides}
+use lib.Pointwise.{pointwise}
 use Rattle.std.proofs.lemmas.Bool.Decides.{Decides-and, Decides-eqb, Decides-like}
 
 -- A test of what keys mean: true exactly where two are the same.
@@ -38,22 +40,8 @@ pairs s t =
     }
 
 -- Lists of equal length whose items are the same in turn.
-module _ {A : Type 0} (s : Sameness A) where
-  abbrev pub same_list : List A → List A → Bool
-  same_list [] [] = true
-  same_list [] (y ∷ ys) = false
-  same_list (x ∷ xs) [] = false
-  same_list (x ∷ xs) (y ∷ ys) = s.test x y && same_list xs ys
-
-  pub list_exact : (xs ys : List A) → Decides (same_list xs ys) (xs ≡ ys)
-  list_exact [] [] = ((λ _. refl), λ _. refl)
-  list_exact [] (y ∷ ys) = ((λ e. absurd (false≢true e)), λ e. cc)
-  list_exact (x ∷ xs) [] = ((λ e. absurd (false≢true e)), λ e. cc)
-  list_exact (x ∷ xs) (y ∷ ys) =
-      Decides-like (s.test x y && same_list xs ys) (λ h. let p = h.0 in let q = h.1 in cc) (λ e. (cc, cc)) (Decides-and (s.test x y) (same_list xs ys) (s.exact x y) (list_exact xs ys))
-
-  abbrev pub lists : Sameness (List A)
-  lists = record { test = same_list; exact = list_exact }
+abbrev pub lists : {A : Type 0} → Sameness A → Sameness (List A)
+lists s = record { test = pointwise s.test; exact = λ xs ys. slice_eq-Decides s.exact xs ys (pointwise s.test xs ys) refl }
 
 pub joined : {A B : Type 0} (f : A → B) (g : B → A) → ((a : A) → g (f a) ≡ a) → (a b : A) → f a ≡ f b → a ≡ b
 joined f g back a b e = sym (back a) ∙ ap g e ∙ back b

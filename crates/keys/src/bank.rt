@@ -27,30 +27,14 @@ pub fn find<B: Bank, S: Sought<B::Key>>(bank: &B, sought: &S) -> Option<usize>
     ensures is { result ≡ place B.Key.Key.sameness (map B.Key.Key.meaning (B.Bank.keys bank.now)) (B.Key.Key.meaning (S.Sought.stands sought.now)) }
     ensures first { First (map B.Key.Key.meaning (B.Bank.keys bank.now)) (B.Key.Key.meaning (S.Sought.stands sought.now)) result }
 {
-    for i in 0..bank.len() {
-        if sought.is(&bank.key_at(i)) {
-            return Some(i);
-        }
-    }
-    None
+    (0..bank.len()).find(|&i| sought.is(&bank.key_at(i)))
 }
 
-// Where a key stands in a table of different keys.
-#[derive(Clone, Copy)]
-pub enum Placed {
-    // It is there, and first came at this place.
-    Known(usize),
-    // It is not there, and takes the next place, this one, once it is appended.
-    New(usize),
-}
-
-// The place that a key has in a table of different keys, or takes.
-pub fn place_of<B: Bank, S: Sought<B::Key>>(bank: &B, sought: &S) -> Placed
+// The place of a key in a table of different keys: `Ok` where it is there, and first came at this place; `Err` where it is not
+// there, and takes the next place, this one, once it is appended.
+pub fn place_of<B: Bank, S: Sought<B::Key>>(bank: &B, sought: &S) -> Result<usize, usize>
     ensures is { result ≡ placed B.Key.Key.sameness (map B.Key.Key.meaning (B.Bank.keys bank.now)) (B.Key.Key.meaning (S.Sought.stands sought.now)) }
     ensures laws { TableLaws B.Key.Key.sameness }
 {
-    match find(bank, sought) {
-        Some(i) => Placed::Known(i),
-        None => Placed::New(bank.len()),
-    }
+    find(bank, sought).ok_or(bank.len())
 }

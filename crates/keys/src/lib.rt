@@ -7,7 +7,7 @@ pub mod numbers;
 pub mod order;
 pub mod run;
 
-pub use bank::{Bank, Placed, find, place_of};
+pub use bank::{Bank, find, place_of};
 pub use key::{Key, Sought};
 pub use numbers::{Numbered, Numbers, numbers_ascend};
 pub use order::OrderedKey;

@@ -4,7 +4,7 @@
 #[cfg(test)]
 mod tests {
     use format::Coordinate;
-    use keys::{AscendingRun, Numbered, Numbers, Placed, find, numbers_ascend, place_of};
+    use keys::{AscendingRun, Numbered, Numbers, find, numbers_ascend, place_of};
     use sink::{Buffer, ByteCounter, Checksum, Full, Sink};
     use std::process::Abort;
     use std::test::Fail;
@@ -141,8 +141,8 @@ mod tests {
         assert_eq!(rt; find(&bank, &5u16), Some(0));
         assert_eq!(rt; find(&bank, &7u16), Some(3));
         assert_eq!(rt; find(&bank, &4u16), None);
-        assert!(rt; matches!(place_of(&bank, &3u16), Placed::Known(1)));
-        assert!(rt; matches!(place_of(&bank, &4u16), Placed::New(4)));
+        assert_eq!(rt; place_of(&bank, &3u16), Ok(1));
+        assert_eq!(rt; place_of(&bank, &4u16), Err(4));
     }
 
     #[test]

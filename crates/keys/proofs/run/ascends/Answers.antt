@@ -1,17 +1,12 @@
-use Rattle.std.proofs.Common.{arith}
-use Rattle.keys.proofs.Orders.{walk_starts, walk_goes, walk_stops, walk_ends}
+use Rattle.std.proofs.Common.{refl, rules}
+use Rattle.std.proofs.lemmas.Iterator.{cases_from_all, YieldsList-from_range}
+use Rattle.keys.specs.Order.{Rises}
+use Rattle.keys.proofs.Orders.{ascends}
 use Rattle.keys.proofs.run.ascends.Goals as goal
 
-pub loop-i-init : goal.loop-i-init
-loop-i-init g c = walk_starts _ _ _ c.new-run.result.last c.new-run.ensures.empty
-
-pub loop-i-preserved : goal.loop-i-preserved
-loop-i-preserved g c =
-    walk_goes _ _ _ c.loop-i.i c.key_at.result (omega arith) c.key_at.ensures c.loop-i.run.last _ c.take.ensures.ties c.loop-i.invariant c.if-not-take.ensures.takes
-
-pub returns-then-not-take : goal.returns-then-not-take
-returns-then-not-take g c =
-    walk_stops _ _ _ c.loop-i.i c.key_at.result (omega arith) c.key_at.ensures c.loop-i.run.last _ c.take.ensures.ties c.loop-i.invariant c.if-not-take.ensures.takes
-
 pub returns : goal.returns
-returns g c = walk_ends _ _ _ c.loop-i.i c.loop-i.run.last (omega arith) c.loop-i.invariant
+returns g c =
+    let keys = g.B.Bank.keys c.args.bank.now in
+    let up = Rises g.B.Key.Ord.cmp keys in
+    ascends g.B.Key.Ord.cmp g.met.B.Key.Ord.total g.B.Key.Key.meaning g.met.B.Key.OrderedKey.ties keys c.len.result c.all.result c.len.ensures
+    (cases_from_all _ _ c.all.result up (λ i. up i → ⊥) c.all.ensures.ran (YieldsList-from_range _ _ _ refl refl) (λ x q k. (search rules, search rules)) (λ x q k. search rules))

@@ -1,10 +1,5 @@
-use Rattle.std.proofs.Common.{refl}
-use Rattle.keys.proofs.Orders.{takes, takes_not}
+use Rattle.keys.proofs.Orders.{takes}
 use Rattle.keys.proofs.run.AscendingRun.take.Goals as goal
 
-pub returns-then-not-admits : goal.returns-then-not-admits
-returns-then-not-admits g c =
-    record { takes = takes_not g.K.OrderedKey.order g.K.Key.meaning _ _ c.admits.ensures.ties _ refl c.if-not-admits.ensures.above; ties = c.admits.ensures.ties }
-
 pub returns : goal.returns
-returns g c = record { takes = takes g.K.OrderedKey.order g.K.Key.meaning _ _ c.admits.ensures.ties c.if-not-admits.ensures.above; ties = c.admits.ensures.ties }
+returns g c = takes g.K.Ord.cmp g.met.K.Ord.total g.K.Key.meaning g.met.K.OrderedKey.ties _ _ c.if-not-admits.ensures
