@@ -1,16 +1,22 @@
 -- The runs of a packing, one after the other.
-use Rattle.std.proofs.Common.{◌≡◌, ℕ, zero, suc, ◌+◌, ◌-◌, ◌*◌, ◌<◌, ◌≤◌, Bool, true, false, cond, List, [], ◌∷◌, ◌++◌, length, get_or, take, drop, ℤ, pos, Some, sym, refl, ap, ◌∙◌, subst, arith, length-append, length-drop, length-take, w32, SFits, to_z, of_z}
-use Rattle.std.specs.List.{flat_map}
-use Rattle.std.proofs.lemmas.List.{drop_more, drop-drop, get_or-drop}
+use Rattle.std.proofs.Common.{◌≡◌, ℕ, zero, suc, ◌+◌, ◌-◌, ◌*◌, ◌<◌, ◌≤◌, Bool, true, false, cond, List, [], ◌∷◌, ◌++◌, length, get_or, take, drop, ℤ, pos, negsuc, ◌^◌, ◌/◌, ◌%◌, Some, None, sym, refl, ap, ◌∙◌, subst, arith, length-append, length-drop, length-take, w32, SFits, to_z, of_z}
+use Rattle.std.specs.List.{flat_map, FoldsTo}
+use Rattle.std.specs.Fn.{Called}
+use Rattle.std.specs.Iterator.{Yields, Drains, FoldTurn}
+use denote.Param.Members.{Mut}
+use Rattle.std.proofs.lemmas.List.{drop_more, drop-drop, get_or-drop, at_drop_all}
 use Rattle.format.specs.declared.Width.{Width}
 use Rattle.format.specs.declared.Width.TheVariants.{Zero, One, Two, Four}
-use Rattle.format.specs.Packed.{Holds, wide, stops, goes_on, next_run, control, bytes, packed}
+use Rattle.format.specs.Packed.{Holds, wide, stops, goes_on, next_run, control, bytes, pack, packed}
 use mir.ValLaws.{to_z-of_z}
+use Rattle.write.specs.Bytes.{be}
 use Rattle.format.proofs.Fixed.{length-be}
 use Rattle.format.specs.Fits.{Fits32}
 use Rattle.format.proofs.Packs.{own_holds, widens, packed_first}
 use Rattle.encode.specs.declared.runs.Run.{Run}
-use Rattle.encode.specs.Runs.{RunOf, Steps, run_bytes, width_size}
+use Rattle.encode.specs.declared.runs.Runs.{Runs}
+use Rattle.encode.specs.Lengths.{measured}
+use Rattle.encode.specs.Runs.{RunOf, Steps, Walks, run_bytes, width_size}
 use Rattle.encode.proofs.Choosing.{run_within}
 
 -- the width of a run holds each of its values
@@ -40,15 +46,28 @@ first_run (v ∷ vs) n w h e =
     subst (λ (p : ℕ × Width). packed (v ∷ vs) ≡ control p.1 (p.0 - 1) ∷ (flat_map (bytes p.1) (take p.0 (v ∷ vs)) ++ packed (drop p.0 (v ∷ vs)))) (sym e)
     (packed_first v vs ∙ ap (λ n. control (wide v) n ∷ (flat_map (bytes (wide v)) (v ∷ take m vs) ++ packed (drop m vs))) k)
 
--- the values from i up to e: v at i, which was read as 32 bits, and the others
-pub part-next : (f : ℤ → List ℕ) (vs : List ℤ) (i e : ℕ) (v : ℤ) → i < e → i < length vs → SFits w32 v → v ≡ get_or vs i (pos 0) →
-    flat_map f (take (e - i) (drop i vs)) ≡ f (to_z w32 (of_z w32 v)) ++ flat_map f (take (e - (i + 1)) (drop (i + 1) vs))
-part-next f vs i e v lt l fits is =
-    let s : e - i ≡ suc (e - (i + 1)) = omega arith in
-    rw (to_z-of_z w32 v fits, s, drop_more vs i (pos 0) l, is)
-
+-- no values from i up to e
 pub part_none : (f : ℤ → List ℕ) (vs : List ℤ) (i e : ℕ) → e ≤ i → flat_map f (take (e - i) (drop i vs)) ≡ []
 part_none f vs i e le = let z : e - i ≡ 0 = omega arith in rw z
+
+pub width_few : (w : Width) → width_size w ≤ 4
+width_few Zero = omega arith
+width_few One = omega arith
+width_few Two = omega arith
+width_few Four = omega arith
+
+-- a value's bytes in a width that holds it are the last of its four
+pub low_bytes : (w : Width) (v : ℤ) → Holds w v → be (width_size w) (of_z w32 v) ≡ bytes w v
+unfolding be
+low_bytes Zero v h = refl
+low_bytes One (pos n) h = refl
+low_bytes One (negsuc n) h = ap (λ b. b ∷ []) (omega arith)
+low_bytes Two (pos n) h = refl
+low_bytes Two (negsuc n) h =
+    let high : (2 ^ 32 - suc n) / 256 % 256 ≡ (2 ^ 16 - suc n) / 256 % 256 = omega arith in
+    let low : (2 ^ 32 - suc n) / 1 % 256 ≡ (2 ^ 16 - suc n) / 1 % 256 = omega arith in
+    rw high (ap (λ b. (2 ^ 16 - suc n) / 256 % 256 ∷ b ∷ []) low)
+low_bytes Four v h = refl
 
 length_value : (w : Width) (v : ℤ) → length (bytes w v) ≡ width_size w
 length_value Zero v = refl
@@ -84,13 +103,20 @@ module _ (vs : List ℤ) (run : Run) (is : RunOf vs run) where
       let values : length (flat_map (bytes run.width) (take run.count (drop run.place vs))) ≡ run.count * width_size run.width = length_values run.width (take run.count (drop run.place vs)) ∙ ap (λ k. k * width_size run.width) n in
       ap length run_next ∙ simp length-append (omega arith)
 
-  -- the width of a run holds each of its values
-  pub run_holds : (i : ℕ) (v : ℤ) → run.place ≤ i → i < run.place + run.count → SFits w32 v → v ≡ get_or vs i (pos 0) → Holds run.width (to_z w32 (of_z w32 v))
-  run_holds i v le lt fits read =
-      let e : run.place + (i - run.place) ≡ i = omega arith in
-      let at : get_or (drop run.place vs) (i - run.place) (pos 0) ≡ v = get_or-drop run.place vs (i - run.place) (pos 0) ∙ ap (λ k. get_or vs k (pos 0)) e ∙ sym read in
-      let h = first_holds (drop run.place vs) run.count run.width is.is (i - run.place) (omega arith) in
-      rw (to_z-of_z w32 v fits) (subst (λ (x : ℤ). Fits32 x → Holds run.width x) at h fits.sfits)
+  -- a value of the run, which was read as 32 bits: the width holds it, and it is the next of those that are left to write
+  module _ (i : ℕ) (v : ℤ) (le : run.place ≤ i) (lt : i < run.place + run.count) (fits : SFits w32 v) (read : v ≡ get_or vs i (pos 0)) where
+    pub run_holds : Holds run.width (to_z w32 (of_z w32 v))
+    run_holds =
+        let e : run.place + (i - run.place) ≡ i = omega arith in
+        let at : get_or (drop run.place vs) (i - run.place) (pos 0) ≡ v = get_or-drop run.place vs (i - run.place) (pos 0) ∙ ap (λ k. get_or vs k (pos 0)) e ∙ sym read in
+        let h = first_holds (drop run.place vs) run.count run.width is.is (i - run.place) (omega arith) in
+        rw (to_z-of_z w32 v fits) (subst (λ (x : ℤ). Fits32 x → Holds run.width x) at h fits.sfits)
+
+    pub run_more : flat_map (bytes run.width) (take (run.place + run.count - i) (drop i vs)) ≡
+        bytes run.width (to_z w32 (of_z w32 v)) ++ flat_map (bytes run.width) (take (run.place + run.count - (i + 1)) (drop (i + 1) vs))
+    run_more =
+        let s : run.place + run.count - i ≡ suc (run.place + run.count - (i + 1)) = omega arith in
+        rw (to_z-of_z w32 v fits, s, drop_more vs i (pos 0) (omega (arith, run_ends.2)), read)
 
   -- what is written of a run, part by part
   pub run_written : (b : ℕ) → b ≡ control run.width (run.count - 1) →
@@ -102,9 +128,6 @@ module _ (vs : List ℤ) (at : ℕ) (run : Run) (after : ℕ) (s : Steps vs at (
   ends : (1 ≤ run.count) × (run.count ≤ 64) × (run.place + run.count ≤ length vs)
   ends = run_ends vs run s.1
 
-  pub step_less : length vs - after < length vs - at
-  step_less = let e = ends in omega arith
-
   pub step_few : run.count ≤ 64
   step_few = ends.1
 
@@ -113,7 +136,38 @@ module _ (vs : List ℤ) (at : ℕ) (run : Run) (after : ℕ) (s : Steps vs at (
       let e : run.place + run.count ≡ after = omega arith in
       ap (λ i. packed (drop i vs)) (sym s.0) ∙ run_next vs run s.1 ∙ ap (λ i. run_bytes run vs ++ packed (drop i vs)) e
 
-  pub step_length : length (packed (drop at vs)) ≡ 1 + run.count * width_size run.width + length (packed (drop after vs))
+  step_length : length (packed (drop at vs)) ≡ 1 + run.count * width_size run.width + length (packed (drop after vs))
   step_length =
       let e : run.place + run.count ≡ after = omega arith in
       ap (λ i. length (packed (drop i vs))) (sym s.0) ∙ length_run vs run s.1 ∙ ap (λ i. 1 + run.count * width_size run.width + length (packed (drop i vs))) e
+
+pub step_none : (vs : List ℤ) (at after : ℕ) → Steps vs at None after → packed (drop at vs) ≡ []
+unfolding pack
+step_none vs at after s = at_drop_all packed vs at s.0
+
+-- a walk that adds up the runs' lengths comes to that of the packing from its place on
+module _ {V F : Type 0} {g : Mut F (ℕ × (Run × Unit {0})) ℕ} {f : F} (deltas : V → List ℤ) where
+  module _ (adds : (a : ℕ) (x : Run) (b : ℕ) (q : F) → Called g f (a, (x, tt)) b q → (q ≡ f) × (b ≡ measured (a + (1 + x.count * width_size x.width)))) where
+    total_from : (xs : List Run) (s t u : Runs V) (n a r : ℕ) (q : F) → a ≡ measured n → Yields (Walks deltas) s xs t → Walks deltas t None u →
+        FoldsTo {P = F × ℕ} (FoldTurn g) (f, a) xs (q, r) → r ≡ measured (n + length (packed (drop s.place (deltas s.values.now))))
+    total_from [] s t u n a r q e y z fo =
+        let none = ap length (step_none (deltas t.values.now) t.place u.place z.1) in
+        let same = ap (λ s. length (packed (drop s.place (deltas s.values.now)))) y in
+        let last : a ≡ r = ap (λ p. p.1) fo in
+        omega (arith, none, same, last, e)
+    total_from (x ∷ xs) s t u n a r q e y z fo =
+        let added = adds a x fo.0.1 fo.0.0 fo.1 in
+        let long = step_length (deltas s.values.now) s.place x y.0.place y.1.1 in
+        let same = ap (λ v. length (packed (drop y.0.place (deltas v)))) y.1.0 in
+        let m = n + (1 + x.count * width_size x.width) in
+        let sum : fo.0.1 ≡ measured m = omega (arith, added.1, e) in
+        let rest = subst (λ p. FoldsTo {P = F × ℕ} (FoldTurn g) (p, fo.0.1) xs (q, r)) added.0 fo.2 in
+        let ih = total_from xs y.0 t u m fo.0.1 r q sum y.2 z rest in
+        omega (arith, ih, long, same)
+
+  pub total_is : {s : Runs V} (r : ℕ) → (xs : List Run) × (q : F) × Drains (Walks deltas) s xs × FoldsTo {P = F × ℕ} (FoldTurn g) (f, 0) xs (q, r) →
+      ((a : ℕ) (x : Run) (b : ℕ) (q : F) → Called g f (a, (x, tt)) b q → (q ≡ f) × (b ≡ measured (a + (1 + x.count * width_size x.width)))) →
+      r ≡ measured (length (packed (drop s.place (deltas s.values.now))))
+  total_is {s} r ran adds =
+      let total = total_from adds ran.0 s ran.2.1.0 ran.2.0 0 0 r ran.1 refl ran.2.1.1 ran.2.1.2 ran.3 in
+      omega arith

@@ -5,6 +5,7 @@ use Rattle.format.specs.declared.Width.{Width}
 use Rattle.format.specs.declared.Width.TheVariants.{Zero, One, Two, Four}
 use Rattle.format.specs.Packed.{next_run, control, bytes}
 use Rattle.encode.specs.declared.runs.Run.{Run}
+use Rattle.encode.specs.declared.runs.Runs.{Runs}
 
 -- a run of the values vs: the one that begins at its place; the machine can say where it ends
 pub record RunOf (vs : List ℤ) (run : Run) : Type 0 where
@@ -16,6 +17,10 @@ pub record RunOf (vs : List ℤ) (run : Run) : Type 0 where
 abbrev pub Steps : List ℤ → ℕ → Option Run → ℕ → Type 0
 Steps vs at None after = (length vs ≤ at) × (after ≡ at)
 Steps vs at (Some run) after = (run.place ≡ at) × RunOf vs run × (after ≡ at + run.count)
+
+-- A call of `next`: the same values, and one step.
+abbrev pub Walks : {V : Type 0} → (V → List ℤ) → Runs V → Option Run → Runs V → Type 0
+Walks deltas s r t = (t.values.now ≡ s.values.now) × Steps (deltas s.values.now) s.place r t.place
 
 -- in how many bytes a value of a width is written
 abbrev pub width_size : Width → ℕ

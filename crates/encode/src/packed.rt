@@ -9,7 +9,7 @@ use crate::deltas::Deltas;
 use crate::runs::{Run, Runs};
 use format::Width;
 use sink::{Full, Sink};
-use write::FontWrite;
+use write::{FontWrite, put_all};
 
 // A list of deltas, written as packed runs.
 #[derive(Clone, Copy)]
@@ -20,55 +20,62 @@ const DELTAS_ARE_ZERO: u8 = 0x80;
 // A run of 16-bit deltas; with the bit above, of 32-bit ones.
 const DELTAS_ARE_WORDS: u8 = 0x40;
 
-// The control byte of a run.
-fn control_byte(width: Width, count: usize) -> u8
-    requires { (1 ≤ count) × (count ≤ 64) }
-    ensures { result ≡ control width (count - 1) }
+// In how many bytes a value of a width is written.
+fn value_len(width: Width) -> usize
+    ensures { result ≡ width_size width }
 {
-    let n = (count - 1) as u8;
     match width {
-        Width::Zero => DELTAS_ARE_ZERO + n,
-        Width::One => n,
-        Width::Two => DELTAS_ARE_WORDS + n,
-        Width::Four => DELTAS_ARE_ZERO + DELTAS_ARE_WORDS + n,
+        Width::Zero => 0,
+        Width::One => 1,
+        Width::Two => 2,
+        Width::Four => 4,
     }
 }
 
-// Writes a value in the bytes of its width.
+// Writes a value in the bytes of its width: the last of its four.
 fn write_value<S: Sink>(width: Width, v: i32, sink: &mut S) -> Result<(), Full>
     requires { Holds width v }
     ensures { WhileRoom S.meaning sink.old (value_bytes width v) result sink.new }
 {
-    match width {
-        Width::Zero => Ok(()),
-        Width::One => (v as i8).write_while_room(sink),
-        Width::Two => (v as i16).write_while_room(sink),
-        Width::Four => v.write_while_room(sink),
-    }
+    let all = v.to_be_bytes();
+    put_all(&all[4 - value_len(width)..], sink)
 }
 
-// Writes a run: its control byte, and its values.
-fn write_run<V: Deltas, S: Sink>(values: &V, run: Run, sink: &mut S) -> Result<(), Full>
-    requires { RunOf (V.deltas values.now) run }
-    ensures { WhileRoom S.meaning sink.old (run_bytes run (V.deltas values.now)) result sink.new }
-{
-    control_byte(run.width, run.count).write_while_room(sink)?;
-    for i in run.place..run.place + run.count {
-        write_value(run.width, values.delta_at(i), sink)?;
+impl Run {
+    // Its control byte.
+    fn control_byte(self) -> u8
+        requires { (1 ≤ self.count) × (self.count ≤ 64) }
+        ensures { result ≡ control self.width (self.count - 1) }
+    {
+        let marks = match self.width {
+            Width::Zero => DELTAS_ARE_ZERO,
+            Width::One => 0,
+            Width::Two => DELTAS_ARE_WORDS,
+            Width::Four => DELTAS_ARE_ZERO + DELTAS_ARE_WORDS,
+        };
+        marks + (self.count - 1) as u8
     }
-    Ok(())
-}
 
-// How many bytes a run takes.
-fn run_len(width: Width, count: usize) -> usize
-    requires { count ≤ 64 }
-    ensures { result ≡ 1 + count * width_size width }
-{
-    match width {
-        Width::Zero => 1,
-        Width::One => count + 1,
-        Width::Two => count * 2 + 1,
-        Width::Four => count * 4 + 1,
+    // How many bytes it takes.
+    fn packed_len(self) -> usize
+        requires { self.count ≤ 64 }
+        ensures { result ≡ 1 + self.count * width_size self.width }
+    {
+        1 + self.count * value_len(self.width)
+    }
+
+    // Writes it: its control byte, and its values.
+    fn write<V: Deltas, S: Sink>(self, values: &V, sink: &mut S) -> Result<(), Full>
+        requires { RunOf (V.deltas values.now) self }
+        ensures { WhileRoom S.meaning sink.old (run_bytes self (V.deltas values.now)) result sink.new }
+    {
+        self.control_byte().write_while_room(sink)?;
+        // A loop by place, as the values may lie scattered, and as a proof learns nothing of what a
+        // closure writes through `sink`.
+        for i in self.place..self.place + self.count {
+            write_value(self.width, values.delta_at(i), sink)?;
+        }
+        Ok(())
     }
 }
 
@@ -77,12 +84,7 @@ impl<V: Deltas> PackedDeltas<V> {
     pub fn measure(&self) -> usize
         ensures { result ≡ measured (length (packed (V.deltas self.now.0))) }
     {
-        let mut total = 0usize;
-        let mut runs = Runs::new(&self.0);
-        while let Some(run) = runs.next_run() {
-            total = total.saturating_add(run_len(run.width, run.count));
-        }
-        total
+        Runs::new(&self.0).fold(0usize, |total, run| total.saturating_add(run.packed_len()))
     }
 }
 
@@ -90,9 +92,8 @@ impl<V: Deltas> FontWrite for PackedDeltas<V> {
     ghost bytes = { λ p. packed (V.Deltas.deltas p.0) };
 
     fn write_while_room<S: Sink>(&self, sink: &mut S) -> Result<(), Full> {
-        let mut runs = Runs::new(&self.0);
-        while let Some(run) = runs.next_run() {
-            write_run(&self.0, run, sink)?;
+        for run in Runs::new(&self.0) {
+            run.write(&self.0, sink)?;
         }
         Ok(())
     }

@@ -1,7 +1,8 @@
 // Which deltas go into one run.
-ghost use Rattle.std.specs.Prelude.{◌≡◌, ◌+◌, ◌^◌, ◌<◌, length, drop, pos, if◌then◌else◌, slice_index_or};
+ghost use Rattle.std.specs.Prelude.{◌≡◌, ◌+◌, ◌-◌, ◌^◌, ◌<◌, length, drop, pos, if◌then◌else◌, slice_index_or};
+ghost use Rattle.std.specs.Iterator.{at_most};
 ghost use Rattle.format.specs.Packed.{wide, next, is_narrow, is_zero, stops, next_run};
-ghost use Rattle.encode.specs.Runs.{Steps};
+ghost use Rattle.encode.specs.Runs.{Walks};
 
 use crate::deltas::Deltas;
 use format::Width;
@@ -28,14 +29,11 @@ pub struct Runs<'a, V> {
 fn width(v: i32) -> Width
     ensures { result ≡ wide v }
 {
-    if v == 0 {
-        Width::Zero
-    } else if -128 <= v && v <= 127 {
-        Width::One
-    } else if -32768 <= v && v <= 32767 {
-        Width::Two
-    } else {
-        Width::Four
+    match v {
+        0 => Width::Zero,
+        -128..=127 => Width::One,
+        -32768..=32767 => Width::Two,
+        _ => Width::Four,
     }
 }
 
@@ -51,15 +49,12 @@ fn width_at<V: Deltas>(values: &V, i: usize) -> Width
 fn begins<V: Deltas>(values: &V, i: usize, narrow: bool) -> bool
     ensures { result ≡ next (if narrow then is_narrow else is_zero) (drop i (V.deltas values.now)) }
 {
-    if i >= values.len() {
-        return false;
-    }
-    match width_at(values, i) {
-        Width::Zero => true,
-        Width::One => narrow,
-        Width::Two => false,
-        Width::Four => false,
-    }
+    i < values.len()
+        && match width_at(values, i) {
+            Width::Zero => true,
+            Width::One => narrow,
+            Width::Two | Width::Four => false,
+        }
 }
 
 // Whether a run of width `w` stops before the value at a place.
@@ -90,11 +85,11 @@ pub fn next_run_len<V: Deltas>(values: &V, from: usize) -> (usize, Width)
         return (0, Width::Zero);
     }
     let w = width_at(values, from);
-    let mut n = 1;
-    while n < len - from && n < MAX_POINTS_PER_RUN && !stops_at(w, values, from + n) {
-        n += 1;
-    }
-    (n, w)
+    let others = (from + 1..len)
+        .take(MAX_POINTS_PER_RUN - 1)
+        .take_while(|i| !stops_at(w, values, *i))
+        .count();
+    (1 + others, w)
 }
 
 impl<'a, V: Deltas> Runs<'a, V> {
@@ -105,12 +100,17 @@ impl<'a, V: Deltas> Runs<'a, V> {
     {
         Runs { values, place: 0 }
     }
+}
 
-    // The run that begins here, and on to the place after it.
-    pub fn next_run(&mut self) -> Option<Run>
-        ensures values { self.new.values.now ≡ self.old.values.now }
-        ensures steps { Steps (V.deltas self.old.values.now) self.old.place result self.new.place }
-    {
+// Each step gives the run that begins here, and goes on to the place after it.
+impl<'a, V: Deltas> Iterator for Runs<'a, V> {
+    type Item = Run;
+
+    ghost next_gives = { Walks V.deltas };
+
+    ghost remaining = { λ s. at_most (length (V.deltas s.values.now) - s.place) };
+
+    fn next(&mut self) -> Option<Run> {
         let place = self.place;
         if place >= self.values.len() {
             return None;

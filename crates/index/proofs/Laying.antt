@@ -1,17 +1,19 @@
 -- The length of an INDEX, and its parts one after the other.
-use Rattle.std.proofs.Common.{◌≡◌, ℕ, zero, suc, ◌+◌, ◌-◌, ◌<◌, ◌≤◌, false, eqb, List, [], ◌∷◌, ◌++◌, length, get_or, take, drop, Ok, Err, Result, sym, refl, ap, ◌∙◌, subst, append_assoc, append-nil, mul-le-mul_left, arith, length-append}
-use Rattle.std.specs.List.{flat_map}
-use Rattle.std.proofs.lemmas.List.{take_more, drop_more, flat_map_more}
-use Rattle.std.proofs.lemmas.Bool.{le-leb, lt-leb, ne_eqb}
+use Rattle.std.proofs.Common.{◌≡◌, ℕ, zero, suc, ◌+◌, ◌<◌, ◌≤◌, false, eqb, List, [], ◌∷◌, ◌++◌, length, get_or, take, drop, Ok, Err, Result, sym, refl, ap, ◌∙◌, subst, append_assoc, append-nil, mul-le-mul_left, arith, length-append}
+use Rattle.std.specs.List.{flat_map, fold, range_with_len}
+use Rattle.std.proofs.lemmas.List.{take_more, take_all, drop_more, flat_map_more}
+use Rattle.std.proofs.lemmas.Bool.{ne_eqb}
 use Rattle.std.proofs.lemmas.Bool.Decides.{nat_tests}
-use Rattle.sink.specs.Meaning.{Meaning, WhileRoom}
-use Rattle.sink.proofs.Feeding.{Leaves, leaves_step, leaves_stop, leaves_end}
+use Rattle.sink.specs.Meaning.{Meaning, Takes, Stops, WhileRoom}
+use Rattle.sink.proofs.Feeding.{Leaves, leaves_step, leaves_stop, leaves_end, takes_then, stops_then}
 use Rattle.write.specs.Bytes.{be}
 use Rattle.format.specs.Index.{concat, offsets, offset_size, size_of, index}
 use Rattle.format.proofs.Fixed.{length-be}
 use Rattle.format.proofs.Indexes.{at_least, length-index, concat_split}
+use Rattle.encode.specs.Lengths.{measured}
+use Rattle.index.specs.declared.index.Measure.{Measure}
+use Rattle.index.specs.Measures.{index_length, Measures}
 use Rattle.sink.specs.Kinds.{longest}
-use Rattle.index.specs.Measures.{short_index, index_length}
 
 -- the length of an INDEX, by what was measured of its items
 pub length_is : (items : List (List ℕ)) (count data-len : ℕ) → count ≡ length items → data-len ≡ length (concat items) → index_length count data-len ≡ length (index items)
@@ -47,12 +49,14 @@ module _ (items : List (List ℕ)) (i : ℕ) (lt : i < length items) where
   pub offsets-next : (size at at' : ℕ) → at' ≡ at + length (get_or items i []) → flat_map (be size) (offsets at (drop i items)) ≡ be size at ++ flat_map (be size) (offsets at' (drop (i + 1) items))
   offsets-next size at at' e = rw (drop_more items i [] lt, e)
 
--- an INDEX that a table may hold
-pub short_is : (items : List (List ℕ)) → length (index items) ≤ longest → short_index items ≡ index items
-short_is items h = rw (le-leb (length (index items)) longest h)
-
-pub long_is : (items : List (List ℕ)) → longest < length (index items) → short_index items ≡ []
-long_is items h = rw (lt-leb (length (index items)) longest h)
+-- adding up the lengths of the n items from place a on
+pub lens_from : (items : List (List ℕ)) (n a : ℕ) → a + n ≡ length items →
+    fold (λ sum i. measured (sum + measured (length (get_or items i [])))) (measured (length (concat (take a items)))) (range_with_len a n) ≡ measured (length (concat items))
+lens_from items zero a e = ap (λ xs. measured (length (concat xs))) (take_all a items (omega arith))
+lens_from items (suc n) a e =
+    let more = concat-more items a (omega arith) in
+    let step : measured (measured (length (concat (take a items))) + measured (length (get_or items a []))) ≡ measured (length (concat (take (a + 1) items))) = omega (arith, more) in
+    subst (λ start. fold (λ sum i. measured (sum + measured (length (get_or items i [])))) start (range_with_len (a + 1) n) ≡ measured (length (concat items))) (sym step) (lens_from items n (a + 1) (omega arith))
 
 -- the parts of an INDEX that has items
 byte : (n : ℕ) → n < 256 → be 1 n ≡ n ∷ []
@@ -83,15 +87,25 @@ index_none (x ∷ xs) count e z = absurd (omega arith)
 pub size_few : (last : ℕ) → offset_size last ≤ 4
 size_few last = grind (arith, nat_tests)
 
--- the last bytes of a number's four
-pub last_bytes : (size n : ℕ) (all : List ℕ) → size ≤ 4 → all ≡ be 4 n → take (4 - (4 - size)) (drop (4 - size) all) ≡ be size n
-unfolding be
-last_bytes zero n all h e = refl
-last_bytes (suc zero) n all h e = rw e
-last_bytes (suc (suc zero)) n all h e = rw e
-last_bytes (suc (suc (suc zero))) n all h e = rw e
-last_bytes (suc (suc (suc (suc zero)))) n all h e = rw e
-last_bytes (suc (suc (suc (suc (suc k))))) n all h e = absurd (omega arith)
+-- an INDEX by what was measured of its items
+module _ (items : List (List ℕ)) (m : Measure) (is : Measures items m) where
+  pub measured_length : index_length m.count m.data_len ≡ length (index items)
+  measured_length = length_is items m.count m.data_len is.count is.bytes
+
+  pub measured_parts : (size : ℕ) → (m.count ≡ 0 → ⊥) → size ≡ offset_size (1 + m.data_len) →
+      index items ≡ (be 4 m.count ++ (size ∷ [])) ++ (flat_map (be size) (offsets 1 items) ++ concat items)
+  measured_parts size some e = index_parts items m.count size is.count some (e ∙ ap (λ n. offset_size (1 + n)) is.bytes)
+
+  pub measured_none : m.count ≡ 0 → index items ≡ be 4 0
+  measured_none none = index_none items m.count is.count none
+
+  pub measured_few : length (concat items) ≤ longest
+  measured_few = omega (arith, is.short, (index_longer items).1)
+
+-- after some bytes, the last ones, written or not
+pub last_part : {S X E : Type 0} {m : Meaning S} {s t : S} (u : S) (xs ys zs : List ℕ) (r : Result X E) → Takes m s (xs ++ ys) t → WhileRoom m t zs r u → WhileRoom m s (xs ++ (ys ++ zs)) r u
+last_part {m = m} {s = s} u xs ys zs (Ok x) p q = subst (λ all. Takes m s all u) (append_assoc xs ys zs) (takes_then p q)
+last_part {m = m} {s = s} u xs ys zs (Err x) p q = subst (λ all. Stops m s all u) (append_assoc xs ys zs) (stops_then p q)
 
 -- the last part of what is left, written or not
 pub leaves_last : {S X E : Type 0} {m : Meaning S} {s t : S} {whole rest xs : List ℕ} (u : S) (r : Result X E) → Leaves m s whole rest t → rest ≡ xs → WhileRoom m t xs r u → WhileRoom m s whole r u

@@ -1,29 +1,20 @@
-use Rattle.std.proofs.Common.{sym, arith}
-use Rattle.encode.proofs.Choosing.{goes_next, goes_stop, goes_past, goes_none, run_is, run_none}
+use Rattle.std.proofs.Common.{◌≡◌, ◌+◌, ◌-◌, length, refl, ◌∙◌, arith, rules, tests}
+use Rattle.std.proofs.lemmas.Iterator.{YieldsList-from_range, YieldsList-from_take}
+use Rattle.std.proofs.lemmas.Iterator.Consumers.{YieldsList-at, count_from_yields_List}
+use Rattle.std.proofs.lemmas.Iterator.Search.{YieldsList-from_take_while}
+use Rattle.std.proofs.lemmas.List.Folds.{length-prefix_len}
+use Rattle.encode.proofs.Choosing.{goes, goes_counted, run_is}
 use Rattle.encode.proofs.runs.next_run_len.Goals as goal
 
-pub returns-then-from-len : goal.returns-then-from-len
-returns-then-from-len g c = run_none (g.V.Deltas.deltas c.args.values.now) c.args.from (omega arith)
-
-pub loop-n-preserved : goal.loop-n-preserved
-loop-n-preserved g c =
-    let step = goes_next c.width_at-w.result (g.V.Deltas.deltas c.args.values.now) c.args.from c.loop-n.n (omega arith) (omega arith) (sym c.if-not-stops_at.ensures) in
-    (omega arith, omega arith, c.loop-n.invariant.2, omega (arith, c.loop-n.invariant.3, step))
-
-pub returns-else-not-stops_at : goal.returns-else-not-stops_at
-returns-else-not-stops_at g c =
+pub returns : goal.returns
+returns g c =
     let vs = g.V.Deltas.deltas c.args.values.now in
-    let z = goes_stop c.width_at-w.result vs c.args.from c.loop-n.n (omega arith) (omega arith) (sym c.if-not-stops_at.ensures) in
-    run_is c.width_at-w.result vs c.args.from c.loop-n.n (omega arith) c.loop-n.invariant.2 (omega (arith, c.loop-n.invariant.3, z))
-
-pub returns-else-n-lt-MAX_POINTS_PER_RUN : goal.returns-else-n-lt-MAX_POINTS_PER_RUN
-returns-else-n-lt-MAX_POINTS_PER_RUN g c =
-    let vs = g.V.Deltas.deltas c.args.values.now in
-    let z = goes_none c.width_at-w.result vs c.args.from c.loop-n.n (omega arith) in
-    run_is c.width_at-w.result vs c.args.from c.loop-n.n (omega arith) c.loop-n.invariant.2 (omega (arith, c.loop-n.invariant.3, z))
-
-pub returns-after-loop-n : goal.returns-after-loop-n
-returns-after-loop-n g c =
-    let vs = g.V.Deltas.deltas c.args.values.now in
-    let z = goes_past c.width_at-w.result vs c.args.from c.loop-n.n (omega arith) in
-    run_is c.width_at-w.result vs c.args.from c.loop-n.n (omega arith) c.loop-n.invariant.2 (omega (arith, c.loop-n.invariant.3, z))
+    let a = c.args.from + 1 in
+    let w = c.width_at-w.result in
+    let counted = count_from_yields_List c.take_while.result c.count-others.result c.count-others.ensures.ran
+    (YieldsList-from_take_while _ (goes w vs)
+    (YieldsList-at c.take_while.ensures.source (YieldsList-from_take 63 (YieldsList-at c.take.ensures.source (YieldsList-from_range a c.len-len.result (c.len-len.result - a) refl refl)) c.take.ensures.count))
+    c.take_while.ensures.closure c.take_while.ensures.done (λ x r q k. search (rules, tests))) in
+    let few : length vs - a ≡ c.len-len.result - a = omega (arith, c.len-len.ensures) in
+    run_is w vs c.args.from c.count-others.result (omega arith) c.width_at-w.ensures
+    (counted ∙ length-prefix_len (goes w vs) _ ∙ goes_counted w vs 63 a (c.len-len.result - a) few)

@@ -1,7 +1,5 @@
 use Rattle.std.proofs.Common.{arith}
-use Rattle.std.proofs.lemmas.List.{at_drop_all}
-use Rattle.sink.proofs.Feeding.{leaves_step, leaves_stop, leaves_end, while_room_err}
-use Rattle.format.specs.Index.{concat}
+use Rattle.sink.proofs.Feeding.{leaves_step, leaves_stop, while_room_err}
 use Rattle.index.proofs.Laying.{items-next}
 use Rattle.index.proofs.index.write_items.Goals as goal
 
@@ -13,6 +11,3 @@ pub returns-in_err-write_item : goal.returns-in_err-write_item
 returns-in_err-write_item g c =
     while_room_err c.from_residual.result c.from_residual.ensures.0
     (leaves_stop _ c.loop-i.invariant c.in_err-write_item.ensures (items-next (g.B.Items.items c.args.bank.now) c.loop-i.i (omega arith)))
-
-pub returns : goal.returns
-returns g c = leaves_end c.loop-i.invariant (at_drop_all concat (g.B.Items.items c.args.bank.now) c.loop-i.i (omega arith))

@@ -1,6 +1,6 @@
 use Rattle.std.proofs.Common.{◌≡◌, rules}
 use Rattle.write.specs.Bytes.{be}
-use Rattle.index.proofs.Laying.{last_bytes}
+use Rattle.encode.proofs.Numbers.{last_bytes}
 use Rattle.index.proofs.index.write_offset.Goals as goal
 
 pub returns : goal.returns

@@ -1,4 +1,4 @@
-use Rattle.std.proofs.Common.{◌≡◌, ◌-◌, length, drop}
+use Rattle.std.proofs.Common.{◌≡◌, drop}
 use Rattle.sink.proofs.Feeding.{Leaves}
 use Rattle.format.specs.Packed.{packed}
 use Rattle.encode.proofs.packed.PackedDeltasFontWrite.write_while_room.Given as goal
@@ -6,7 +6,4 @@ use Rattle.encode.proofs.packed.PackedDeltasFontWrite.write_while_room.Given as 
 abbrev pub invariant-loop-run : goal.invariant-loop-run
 invariant-loop-run g l =
     let vs = g.V.Deltas.deltas l.self.0 in
-    (l.runs.values.now ≡ l.self.0) × Leaves g.S.Sink.meaning l.initial.sink (packed vs) (packed (drop l.runs.place vs)) l.sink
-
-abbrev pub decreases-loop-run : goal.decreases-loop-run
-decreases-loop-run g l = length (g.V.Deltas.deltas l.self.0) - l.runs.place
+    (l.run-iterator.values.now ≡ l.self.0) × Leaves g.S.Sink.meaning l.initial.sink (packed vs) (packed (drop l.run-iterator.place vs)) l.sink
