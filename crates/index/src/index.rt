@@ -45,7 +45,7 @@ pub struct Index<B: Items> {
     ghost measured: { Measures (B.items bank) measure },
 }
 
-// A clone of another bank may have other items, which no one has measured; a copy has the same.
+// Where the bank is copied: a clone of another bank may have other items, which were not measured.
 impl<B: Items + Copy> Clone for Index<B> {
     ghost is_clone = { λ x y. y ≡ x };
 
@@ -138,7 +138,7 @@ fn write_offsets<B: Items, S: Sink>(bank: &B, size: u8, sink: &mut S) -> Result<
 fn write_items<B: Items, S: Sink>(bank: &B, sink: &mut S) -> Result<(), Full>
     ensures { WhileRoom S.meaning sink.old (concat (B.items bank.now)) result sink.new }
 {
-    // A loop, for the same reason.
+    // A loop, as in `write_offsets`.
     for i in 0..bank.count() {
         bank.write_item(i, sink)?;
     }
