@@ -1,8 +1,9 @@
-// A job's lists, and how far they are filled.
+// A job's lists, and how far they are filled. The names of the nine lists stand in three records: one over `&mut [T]`, `&[T]` and
+// `u32` would take an associated type with parameters, which the language does not have.
 use crate::records::{Component, DeltaSet, Entry, Pair, Span};
 use format::Coordinate;
 
-// Nine lists of records that the caller lends to every call.
+// Nine lists of records that the caller lends to every call. Nothing is allocated, so a record names others by a span or a place.
 #[derive(Drop)]
 pub struct Memory<'a> {
     pub coordinates: &'a mut [Coordinate],

@@ -1,5 +1,5 @@
 // The whole test.
-ghost use Rattle.std.specs.Prelude.{◌≡◌, IfSome, Decides};
+ghost use Rattle.std.specs.Prelude.{◌≡◌, IfSome, MatchOption, Decides};
 ghost use Rattle.memory.specs.Fit.{Counted, Sound, MarkFits};
 ghost use Rattle.memory.specs.Lists.{held, lists, seen};
 
@@ -7,35 +7,21 @@ use crate::fit::groups::SetRegions;
 use crate::fit::kinds::{components_fit, entries_fit, regions_fit, sets_fit, spans_within};
 use crate::memory::{Counts, Filled, Mark, Memory};
 
-pub fn counted(n: &Counts, mem: &Memory<'_>) -> bool
-    ensures { Decides result (Counted n.now (lists mem.now)) }
+// The filled part of a memory, none where a count exceeds its list.
+pub fn filled<'b>(n: &Counts, mem: &'b Memory<'_>) -> Option<Filled<'b>>
+    ensures { MatchOption result (Counted n.now (lists mem.now) → ⊥) (λ f. Counted n.now (lists mem.now) × (seen f ≡ held n.now (lists mem.now))) }
 {
-    n.coordinates as usize <= mem.coordinates.len()
-        && n.regions as usize <= mem.regions.len()
-        && n.values as usize <= mem.values.len()
-        && n.entries as usize <= mem.entries.len()
-        && n.sets as usize <= mem.sets.len()
-        && n.pairs as usize <= mem.pairs.len()
-        && n.components as usize <= mem.components.len()
-        && n.composites as usize <= mem.composites.len()
-        && n.axis_lists as usize <= mem.axis_lists.len()
-}
-
-pub fn filled<'b>(n: &Counts, mem: &'b Memory<'_>) -> Filled<'b>
-    requires { Counted n.now (lists mem.now) }
-    ensures { seen result ≡ held n.now (lists mem.now) }
-{
-    Filled {
-        coordinates: &mem.coordinates[0..n.coordinates as usize],
-        regions: &mem.regions[0..n.regions as usize],
-        values: &mem.values[0..n.values as usize],
-        entries: &mem.entries[0..n.entries as usize],
-        sets: &mem.sets[0..n.sets as usize],
-        pairs: &mem.pairs[0..n.pairs as usize],
-        components: &mem.components[0..n.components as usize],
-        composites: &mem.composites[0..n.composites as usize],
-        axis_lists: &mem.axis_lists[0..n.axis_lists as usize],
-    }
+    Some(Filled {
+        coordinates: mem.coordinates.get(..n.coordinates as usize)?,
+        regions: mem.regions.get(..n.regions as usize)?,
+        values: mem.values.get(..n.values as usize)?,
+        entries: mem.entries.get(..n.entries as usize)?,
+        sets: mem.sets.get(..n.sets as usize)?,
+        pairs: mem.pairs.get(..n.pairs as usize)?,
+        components: mem.components.get(..n.components as usize)?,
+        composites: mem.composites.get(..n.composites as usize)?,
+        axis_lists: mem.axis_lists.get(..n.axis_lists as usize)?,
+    })
 }
 
 pub fn mark_fits(mark: Option<Mark>, f: &Filled<'_>) -> bool
