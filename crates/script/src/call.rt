@@ -1,14 +1,14 @@
 // The calls of a script.
 use deltas::Part;
 use format::Coordinate;
-use memory::{Component, Pair, Span};
+use memory::{Component, Pair};
 
-// A delta set's call: its parts, and the coordinates and values that they lie on, each a span of the script's lists.
-#[derive(Clone, Copy)]
+// A delta set's call: its parts, and the coordinates and values of all of them, in turn.
+#[derive(Drop)]
 pub struct Deltas {
-    pub parts: Span,
-    pub coordinates: Span,
-    pub values: Span,
+    pub parts: Vec<Part>,
+    pub coordinates: Vec<Coordinate>,
+    pub values: Vec<i32>,
 }
 
 // A temporary id as a script names it.
@@ -20,10 +20,10 @@ pub enum Id {
     Of(usize),
 }
 
-// A component's call. Its axis values are a span of the script's pairs.
-pub type Stroke = Component<Span, Id>;
+// A component's call: with its axis values.
+pub type Stroke = Component<Vec<Pair>, Id>;
 
-#[derive(Clone, Copy)]
+#[derive(Drop)]
 pub enum Call {
     Deltas(Deltas),
     Begin,
@@ -33,22 +33,18 @@ pub enum Call {
 }
 
 // A call, the number of its line, and the name that the line gives to its answer, if any.
-#[derive(Clone, Copy)]
+#[derive(Drop)]
 pub struct Line<'a> {
     pub number: usize,
-    pub name: &'a str,
+    pub name: Option<&'a str>,
     pub call: Call,
 }
 
-// A job's calls in turn, and what they are handed.
+// A job's calls in turn, and the bytes of its coverage and of its conditions, where the script gives them.
 #[derive(Drop)]
 pub struct Script<'a> {
     pub job: u32,
     pub lines: Vec<Line<'a>>,
-    pub parts: Vec<Part>,
-    pub coordinates: Vec<Coordinate>,
-    pub values: Vec<i32>,
-    pub pairs: Vec<Pair>,
-    pub coverage: Vec<u8>,
-    pub conditions: Vec<u8>,
+    pub coverage: Option<Vec<u8>>,
+    pub conditions: Option<Vec<u8>>,
 }

@@ -2,7 +2,6 @@
 #![tactic(auto)]
 
 pub mod call;
-pub mod hex;
 mod line;
 pub mod mistake;
 mod word;

@@ -4,13 +4,13 @@ use std::fmt;
 
 // Where a script cannot be read, and what was expected there. Lines and columns count from 1, columns in bytes.
 #[derive(Clone, Copy)]
-pub struct Mistake<'a> {
+pub struct Mistake {
     pub line: usize,
     pub column: usize,
-    pub expected: &'a str,
+    pub expected: &'static str,
 }
 
-impl<'a> fmt::Display for Mistake<'a> {
+impl fmt::Display for Mistake {
     fn fmt<W: fmt::Write>(&self, f: &mut fmt::Formatter<W>) -> fmt::Result {
         let line = self.line;
         let column = self.column;
@@ -20,20 +20,20 @@ impl<'a> fmt::Display for Mistake<'a> {
 }
 
 #[derive(Clone, Copy)]
-pub enum Unread<'a> {
-    Mistake(Mistake<'a>),
+pub enum Unread {
+    Mistake(Mistake),
     // No memory is left.
     Memory,
 }
 
-impl<'a> From<AllocError> for Unread<'a> {
-    fn from(_e: AllocError) -> Unread<'a> {
+impl From<AllocError> for Unread {
+    fn from(_e: AllocError) -> Unread {
         Unread::Memory
     }
 }
 
-impl<'a, T: Drop> From<AllocFailed<T>> for Unread<'a> {
-    fn from(_e: AllocFailed<T>) -> Unread<'a> {
+impl<T: Drop> From<AllocFailed<T>> for Unread {
+    fn from(_e: AllocFailed<T>) -> Unread {
         Unread::Memory
     }
 }

@@ -1,106 +1,121 @@
 // The words of a line, each with its place.
 use crate::mistake::{Mistake, Unread};
+use std::alloc::{AllocError, Global};
+use std::num::ParseIntError;
+use std::str::FromStr;
+
+// Where a word stands, or one is missing. Lines and columns count from 1, columns in bytes.
+#[derive(Clone, Copy)]
+pub struct Place {
+    pub line: usize,
+    pub column: usize,
+}
+
+impl Place {
+    // Where the line begins that so many lines stand above.
+    pub fn below(lines: usize) -> Place {
+        Place {
+            line: lines.saturating_add(1),
+            column: 1,
+        }
+    }
+
+    // So many bytes further on in the line.
+    pub fn after(self, bytes: usize) -> Place {
+        Place {
+            line: self.line,
+            column: self.column.saturating_add(bytes),
+        }
+    }
+
+    pub fn wrong(self, expected: &'static str) -> Unread {
+        Unread::Mistake(Mistake {
+            line: self.line,
+            column: self.column,
+            expected,
+        })
+    }
+}
 
 // A word, or a piece of one.
 #[derive(Clone, Copy)]
 pub struct Word<'a> {
     pub text: &'a str,
-    pub line: usize,
-    pub column: usize,
+    pub place: Place,
 }
 
-// What is left of a line.
-#[derive(Clone, Copy)]
-pub struct Words<'a> {
-    pub whole: usize,
-    pub rest: &'a str,
-    pub line: usize,
+// A number as a script has it.
+pub trait Number: FromStr<Err = ParseIntError> {
+    // What is said where a word is none.
+    const EXPECTED: &'static str;
 }
 
-impl<'a> Words<'a> {
-    // The next word, an empty one at the line's end.
-    pub fn next_word(&mut self) -> Word<'a> {
-        let rest = self.rest.trim_start();
-        let text = match rest.split_whitespace().next() {
-            Some(text) => text,
-            None => "",
-        };
-        let column = self.whole.saturating_sub(rest.len()).saturating_add(1);
-        self.rest = match rest.get(text.len()..) {
-            Some(more) => more,
-            None => "",
-        };
-        Word {
-            text,
-            line: self.line,
-            column,
-        }
-    }
+impl Number for u32 {
+    const EXPECTED: &'static str = "a number from 0 to 4294967295";
+}
 
-    // Nothing more may follow.
-    pub fn end(self) -> Result<(), Unread<'a>> {
-        let mut words = self;
-        let word = words.next_word();
-        if word.text.is_empty() {
-            Ok(())
-        } else {
-            word.wrong("the line's end")
-        }
-    }
+impl Number for u16 {
+    const EXPECTED: &'static str = "an axis number from 0 to 65535";
+}
+
+impl Number for i16 {
+    const EXPECTED: &'static str = "a number from -32768 to 32767";
+}
+
+impl Number for i32 {
+    const EXPECTED: &'static str = "a number from -2147483648 to 2147483647";
 }
 
 impl<'a> Word<'a> {
-    pub fn wrong<T>(self, expected: &'a str) -> Result<T, Unread<'a>> {
-        Err(Unread::Mistake(Mistake {
-            line: self.line,
-            column: self.column,
-            expected,
-        }))
+    pub fn wrong(self, expected: &'static str) -> Unread {
+        self.place.wrong(expected)
     }
 
     // What stands before a sign and what behind it, if the sign is there.
     pub fn cut(self, sign: char) -> Option<(Word<'a>, Word<'a>)> {
         let (before, behind) = self.text.split_once(sign)?;
-        let column = self.column.saturating_add(before.len()).saturating_add(1);
+        let place = self.place.after(before.len()).after(1);
         Some((
             Word {
                 text: before,
-                line: self.line,
-                column: self.column,
+                place: self.place,
             },
             Word {
                 text: behind,
-                line: self.line,
-                column,
+                place,
             },
         ))
     }
 
-    pub fn unsigned32(self) -> Result<u32, Unread<'a>> {
-        match self.text.parse::<u32>() {
-            Ok(n) => Ok(n),
-            Err(_) => self.wrong("a number from 0 to 4294967295"),
-        }
+    pub fn number<N: Number>(self) -> Result<N, Unread> {
+        self.text.parse().map_err(|_| self.wrong(N::EXPECTED))
     }
 
-    pub fn unsigned16(self) -> Result<u16, Unread<'a>> {
-        match self.text.parse::<u16>() {
-            Ok(n) => Ok(n),
-            Err(_) => self.wrong("an axis number from 0 to 65535"),
+    // The pieces between commas; none of an empty word.
+    pub fn pieces(self, heap: Global) -> Result<Vec<Word<'a>>, AllocError> {
+        let mut all = Vec::new(heap);
+        if self.text.is_empty() {
+            return Ok(all);
         }
+        let mut place = self.place;
+        for text in self.text.split(',') {
+            all.push(Word { text, place })?;
+            place = place.after(text.len()).after(1);
+        }
+        Ok(all)
     }
+}
 
-    pub fn signed16(self) -> Result<i16, Unread<'a>> {
-        match self.text.parse::<i16>() {
-            Ok(n) => Ok(n),
-            Err(_) => self.wrong("a number from -32768 to 32767"),
+// The words of a text that begins at a place.
+pub fn words<'a>(heap: Global, start: Place, text: &'a str) -> Result<Vec<Word<'a>>, AllocError> {
+    let mut all = Vec::new(heap);
+    let mut place = start;
+    for piece in text.split_inclusive(char::is_whitespace) {
+        let text = piece.trim_end();
+        if !text.is_empty() {
+            all.push(Word { text, place })?;
         }
+        place = place.after(piece.len());
     }
-
-    pub fn signed32(self) -> Result<i32, Unread<'a>> {
-        match self.text.parse::<i32>() {
-            Ok(n) => Ok(n),
-            Err(_) => self.wrong("a number from -2147483648 to 2147483647"),
-        }
-    }
+    Ok(all)
 }
