@@ -1,10 +1,11 @@
 -- What adding a delta set does, over what a job holds.
 use Rattle.std.specs.Prelude.{ℕ, ◌+◌, ◌≤◌, Bool, true, false, cond, not, ◌&&◌, List, [], ◌∷◌, ◌++◌, map, length, take, drop, ℤ, pos, is_some, filter, refl}
-use Rattle.std.specs.List.{flat_map, AllByRecursion}
+use Rattle.std.specs.List.{flat_map, list_all, AllByRecursion}
+use Rattle.std.specs.Ordering.{int_eq}
 use Rattle.format.specs.declared.Coordinate.{Coordinate}
 use Rattle.keys.specs.Numbers.{AscendingNumbers}
 use Rattle.keys.specs.Places.{number, place, placed, with_key, grown}
-use Rattle.keys.specs.Sameness.{Sameness, numbers, integers, same_integer, pairs, lists, by_parts}
+use Rattle.keys.specs.Sameness.{Sameness, numbers, integers, pairs, lists, by_parts}
 use Rattle.memory.specs.Lists.{Lists, part}
 use Rattle.memory.specs.declared.records.DeltaSet.{DeltaSet}
 use Rattle.memory.specs.declared.records.Entry.{Entry}
@@ -73,8 +74,7 @@ under (n ∷ ns) [] = []
 under (n ∷ ns) (t ∷ ts) = record { region = n; tuple = t.tuple } ∷ under ns ts
 
 abbrev pub all_zero : List ℤ → Bool
-all_zero [] = true
-all_zero (v ∷ vs) = same_integer v (pos 0) && all_zero vs
+all_zero = list_all (λ v. int_eq v (pos 0))
 
 -- The delta set that is handed in: all-zero tuples are dropped.
 abbrev pub delta_set : Lists → Handed → List NumberedTuple

@@ -1,15 +1,16 @@
 -- Regions, as they are handed in and as a job holds them.
 use Rattle.std.specs.Prelude.{Bool, not, List, map, pos, filter, refl}
+use Rattle.std.specs.Ordering.{int_eq}
 use Rattle.format.specs.declared.Coordinate.{Coordinate}
 use Rattle.keys.specs.Lent.{lent}
-use Rattle.keys.specs.Sameness.{Sameness, numbers, integers, same_integer, pairs, lists, by_parts}
+use Rattle.keys.specs.Sameness.{Sameness, numbers, integers, pairs, lists, by_parts}
 use Rattle.memory.specs.Lists.{part}
 use Rattle.memory.specs.declared.records.Span.{Span}
 use Rattle.deltas.specs.declared.regions.HeldRegion.{HeldRegion}
 
 -- A coordinate whose peak is not zero: one of zero peak does not narrow a region.
 abbrev pub has_peak : Coordinate → Bool
-has_peak c = not (same_integer c.peak (pos 0))
+has_peak c = not (int_eq c.peak (pos 0))
 
 -- The region of coordinates that are handed in: zero peaks are dropped.
 abbrev pub kept : List Coordinate → List Coordinate

@@ -9,12 +9,9 @@ ghost use Rattle.encode.specs.Lengths.{measured};
 ghost use Rattle.index.specs.Measures.{index_length, Measures};
 
 use crate::items::Items;
-use sink::{Full, Sink};
+use sink::{Full, LONGEST, Sink};
 use std::alloc::AllocError;
 use write::{FontWrite, put_all};
-
-// As many bytes as a table may have.
-const LONGEST: usize = 268435455;
 
 // Refusal 13: the bytes would be more than a table may have.
 // A type of its own, as no call refuses by 13 and by another number.

@@ -1,10 +1,10 @@
 -- When two keys mean the same.
-use Rattle.std.specs.Prelude.{◌≡◌, ℕ, Bool, false, ◌&&◌, List, ℤ, pos, negsuc, Decides, ◌==◌, refl}
+use Rattle.std.specs.Prelude.{◌≡◌, ℕ, Bool, ◌&&◌, List, ℤ, Decides, ◌==◌, refl}
 use Rattle.std.proofs.Common.{sym, ap, ◌∙◌}
-use Rattle.std.proofs.lemmas.Bool.{false≢true}
 use Rattle.std.proofs.lemmas.Slice.Eq.{slice_eq-Decides}
-use lib.Pointwise.{pointwise}
-use Rattle.std.proofs.lemmas.Bool.Decides.{Decides-and, Decides-eqb, Decides-like}
+use Rattle.std.specs.Cmp.Lexicographic.{pointwise}
+use Rattle.std.specs.Ordering.{int_eq}
+use Rattle.std.proofs.lemmas.Bool.Decides.{Decides-and, Decides-eqb, Decides-int_eq, Decides-like}
 
 -- A test of what keys mean: true exactly where two are the same.
 pub record Sameness (M : Type 0) : Type 0 where
@@ -16,20 +16,8 @@ abbrev pub numbers : Sameness ℕ
 numbers = record { test = λ m n. m == n; exact = Decides-eqb }
 
 -- The same signed number.
-abbrev pub same_integer : ℤ → ℤ → Bool
-same_integer (pos m) (pos n) = m == n
-same_integer (pos m) (negsuc n) = false
-same_integer (negsuc m) (pos n) = false
-same_integer (negsuc m) (negsuc n) = m == n
-
-pub integer_exact : (a b : ℤ) → Decides (same_integer a b) (a ≡ b)
-integer_exact (pos m) (pos n) = Decides-like (m == n) (ap pos) (λ e. cc) (Decides-eqb m n)
-integer_exact (pos m) (negsuc n) = ((λ e. absurd (false≢true e)), λ e. cc)
-integer_exact (negsuc m) (pos n) = ((λ e. absurd (false≢true e)), λ e. cc)
-integer_exact (negsuc m) (negsuc n) = Decides-like (m == n) (ap negsuc) (λ e. cc) (Decides-eqb m n)
-
 abbrev pub integers : Sameness ℤ
-integers = record { test = same_integer; exact = integer_exact }
+integers = record { test = int_eq; exact = Decides-int_eq }
 
 -- Pairs whose parts are the same.
 abbrev pub pairs : {A B : Type 0} → Sameness A → Sameness B → Sameness (A × B)
