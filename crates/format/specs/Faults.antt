@@ -4,13 +4,13 @@ use Rattle.format.specs.declared.FaultKind.{FaultKind}
 use Rattle.format.specs.declared.FaultKind.TheVariants.{Cut, Past, Wrong, LongRun, Missing}
 
 -- bytes end inside a field
-abbrev pub number : FaultKind → ℕ
-number Cut = 20
+abbrev pub fault_number : FaultKind → ℕ
+fault_number Cut = 20
 -- an offset points past the table, or is 0 where none may be
-number Past = 21
+fault_number Past = 21
 -- a wrong version, format, offset size, first number byte or INDEX offset, or values that the regions do not divide
-number Wrong = 22
+fault_number Wrong = 22
 -- a run passes the count due
-number LongRun = 23
+fault_number LongRun = 23
 -- no such composite, component, axis list, slot or region
-number Missing = 24
+fault_number Missing = 24

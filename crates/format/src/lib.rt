@@ -4,7 +4,7 @@
 
 ghost use Rattle.std.specs.Prelude.{◌≡◌};
 ghost use Rattle.format.specs.Examples.{Examples};
-ghost use Rattle.format.specs.Faults.{number};
+ghost use Rattle.format.specs.Faults.{fault_number};
 ghost use Rattle.format.specs.Laws.{NumbersReadBack, PackedReadsBack, IndexReadsBack, ComponentsReadBack, TableReadsBack, TablesTellApart};
 
 // One axis of a region: where it begins to act, where it acts in full, where it ends (2.14).
@@ -53,7 +53,7 @@ pub enum FaultKind {
 impl FaultKind {
     // The fault's number.
     pub fn number(self) -> u8
-        ensures { result ≡ number self }
+        ensures { result ≡ fault_number self }
     {
         self as u8
     }

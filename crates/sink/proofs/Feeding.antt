@@ -48,10 +48,7 @@ module _ {S : Type 0} {m : Meaning S} where
   while_room_err (Ok x) h p = absurd (false≢true h)
   while_room_err (Err e) h p = p
 
-  -- a loop that writes: its start, a turn, the exit of a `?` in a turn, and its end
-  pub leaves_start : (s : S) (whole : List ℕ) → Leaves m s whole whole s
-  leaves_start s whole = record { done = []; takes = takes_none s; joins = refl }
-
+  -- a loop that writes: a turn, the exit of a `?` in a turn, and its end (its start the check finds alone)
   pub leaves_step : {s t u : S} {whole rest xs : List ℕ} (more : List ℕ) → Leaves m s whole rest t → Takes m t xs u → rest ≡ xs ++ more → Leaves m s whole more u
   leaves_step {xs = xs} more p q e =
       record { done = p.done ++ xs; takes = takes_then p.takes q; joins = append_assoc p.done xs more ∙ sym (ap (λ zs. p.done ++ zs) e) ∙ p.joins }
