@@ -47,27 +47,22 @@ impl Refusal {
 
 impl fmt::Display for Refusal {
     fn fmt<W: fmt::Write>(&self, f: &mut fmt::Formatter<W>) -> fmt::Result {
-        match *self {
-            Refusal::Memory => f.write_str("the job does not fit the memory"),
-            Refusal::PartCounts => f.write_str(
-                "the parts' counts do not add up to what was handed in",
-            ),
-            Refusal::TupleLengths => f.write_str("two parts differ in value count"),
-            Refusal::AxisOrder => f.write_str("axis numbers do not strictly ascend"),
-            Refusal::RegionOrder => f.write_str(
-                "the parts' regions do not get strictly ascending numbers",
-            ),
-            Refusal::NoRoom => f.write_str("a list has no room for the records needed"),
-            Refusal::Limit => f.write_str(
+        f.write_str(match self {
+            Refusal::Memory => "the job does not fit the memory",
+            Refusal::PartCounts => "the parts' counts do not add up to what was handed in",
+            Refusal::TupleLengths => "two parts differ in value count",
+            Refusal::AxisOrder => "axis numbers do not strictly ascend",
+            Refusal::RegionOrder => "the parts' regions do not get strictly ascending numbers",
+            Refusal::NoRoom => "a list has no room for the records needed",
+            Refusal::Limit =>
                 "a 65,536th region, axis of a region, group or set of a group would arise",
-            ),
-            Refusal::GlyphId => f.write_str("gid above 0xFFFFFF"),
-            Refusal::UnknownId => f.write_str("an id is neither the sentinel nor that of a set"),
-            Refusal::IsOpen => f.write_str("a composite is open"),
-            Refusal::NotOpen => f.write_str("no composite is open, or another one"),
-            Refusal::Coverage => f.write_str("coverage of fewer than 4 bytes"),
-            Refusal::TooLong => f.write_str("the table would be longer than 268,435,455 bytes"),
-            Refusal::SinkFull => f.write_str("the sink can take fewer bytes than are needed"),
-        }
+            Refusal::GlyphId => "gid above 0xFFFFFF",
+            Refusal::UnknownId => "an id is neither the sentinel nor that of a set",
+            Refusal::IsOpen => "a composite is open",
+            Refusal::NotOpen => "no composite is open, or another one",
+            Refusal::Coverage => "coverage of fewer than 4 bytes",
+            Refusal::TooLong => "the table would be longer than 268,435,455 bytes",
+            Refusal::SinkFull => "the sink can take fewer bytes than are needed",
+        })
     }
 }

@@ -24,6 +24,7 @@ pub fn filled<'b>(n: &Counts, mem: &'b Memory<'_>) -> Option<Filled<'b>>
     })
 }
 
+// Whether a composite is open where there is a mark, and the mark lies within what is filled.
 pub fn mark_fits(mark: Option<Mark>, f: &Filled<'_>) -> bool
     ensures { Decides result (IfSome mark (MarkFits (seen f.now))) }
 {
