@@ -39,6 +39,10 @@ pub fn mark_fits(mark: Option<Mark>, f: &Filled<'_>) -> bool
 pub fn sound(mark: Option<Mark>, f: &Filled<'_>) -> bool
     ensures { Decides result (Sound mark (seen f.now)) }
 {
+    let set_regions = SetRegions {
+        entries: f.entries,
+        sets: f.sets,
+    };
     f.regions.len() <= u16::MAX as usize
         && regions_fit(f.regions, f.coordinates)
         && entries_fit(f.entries, f.regions.len(), f.values.len())
@@ -46,10 +50,6 @@ pub fn sound(mark: Option<Mark>, f: &Filled<'_>) -> bool
         && components_fit(f.components, f.pairs, f.sets.len())
         && spans_within(f.composites, f.components.len())
         && spans_within(f.axis_lists, f.pairs.len())
-        && SetRegions {
-            entries: f.entries,
-            sets: f.sets,
-        }
-        .groups_fit()
+        && set_regions.groups_fit()
         && mark_fits(mark, f)
 }
