@@ -1,10 +1,11 @@
 // varc encode: one request a line, and its answer: the bytes of a number, of packed values or of an INDEX, in hex.
 use crate::Failure;
 use encode::{PackedDeltas, Uint32Var};
+use hex::FromHexError;
 use index::{ByteStrings, Index};
 use std::alloc::{AllocError, AllocFailed, Global};
 use std::fmt;
-use std::io::{self, BufRead, BufReader};
+use std::io::{BufRead, BufReader};
 use std::str::SplitWhitespace;
 use whole::{ToVecError, to_vec};
 
@@ -66,94 +67,53 @@ impl<'a> fmt::Display for Mistake<'a> {
 }
 
 // A number of 32 bits, and nothing after it.
-fn one_number<'a>(words: SplitWhitespace<'a>) -> Result<u32, Mistake<'a>> {
-    let mut words = words;
-    let Some(word) = words.next() else {
-        return Err(Mistake::OneNumber);
-    };
-    if words.next().is_some() {
-        return Err(Mistake::OneNumber);
-    }
-    match word.parse::<u32>() {
-        Ok(n) => Ok(n),
-        Err(_) => Err(Mistake::Unsigned(word)),
+fn one_number(mut words: SplitWhitespace<'_>) -> Result<u32, Mistake<'_>> {
+    match (words.next(), words.next()) {
+        (Some(word), None) => word.parse().map_err(|_| Mistake::Unsigned(word)),
+        _ => Err(Mistake::OneNumber),
     }
 }
 
 // Signed numbers of 32 bits.
 fn numbers<'a>(heap: Global, words: SplitWhitespace<'a>) -> Result<Vec<i32>, Mistake<'a>> {
-    let mut all = Vec::new(heap);
-    for word in words {
-        match word.parse::<i32>() {
-            Ok(n) => all.push(n)?,
-            Err(_) => return Err(Mistake::Signed(word)),
-        }
-    }
-    Ok(all)
-}
-
-fn digit(c: u8) -> Option<u8> {
-    match c {
-        b'0'..=b'9' => Some(c - b'0'),
-        b'a'..=b'f' => Some(c - b'a' + 10),
-        b'A'..=b'F' => Some(c - b'A' + 10),
-        _ => None,
-    }
+    words
+        .map(|word| word.parse().map_err(|_| Mistake::Signed(word)))
+        .try_collect(heap)
 }
 
 // The bytes that a word has in hex, two digits each; none for '-'.
 fn hex_bytes<'a>(heap: Global, word: &'a str) -> Result<Vec<u8>, Mistake<'a>> {
-    let mut all = Vec::new(heap);
     if word == "-" {
-        return Ok(all);
+        return Ok(Vec::new(heap));
     }
-    let mut high = None;
-    for c in word.bytes() {
-        let Some(d) = digit(c) else {
-            return Err(Mistake::Hex(word));
-        };
-        match high {
-            None => high = Some(d),
-            Some(h) => {
-                all.push(h.wrapping_mul(16) | d)?;
-                high = None;
-            }
-        }
-    }
-    if high.is_some() {
-        return Err(Mistake::Hex(word));
-    }
-    Ok(all)
+    hex::decode(heap, word).map_err(|e| match e {
+        FromHexError::OutOfMemory => Mistake::Memory,
+        _ => Mistake::Hex(word),
+    })
 }
 
 // The INDEX of some items.
 fn index_bytes<'a>(heap: Global, words: SplitWhitespace<'a>) -> Result<Vec<u8>, Mistake<'a>> {
-    let mut items = Vec::new(heap);
-    for word in words {
-        items.push(hex_bytes(heap, word)?)?;
-    }
-    let mut slices = Vec::new(heap);
-    for item in items.iter() {
-        slices.push(item.as_slice())?;
-    }
-    match Index::from_items(ByteStrings(slices.as_slice())) {
-        Ok(index) => Ok(to_vec(heap, &index)?),
-        Err(_) => Err(Mistake::TooLong),
-    }
+    let items: Vec<Vec<u8>> = words.map(|word| hex_bytes(heap, word)).try_collect(heap)?;
+    let slices: Vec<&[u8]> = items.iter().map(|item| item.as_slice()).collect(heap)?;
+    let index = Index::from_items(ByteStrings(slices.as_slice())).map_err(|_| Mistake::TooLong)?;
+    Ok(to_vec(heap, &index)?)
 }
 
-// The bytes that a line asks for.
-fn answer<'a>(heap: Global, line: &'a str) -> Result<Vec<u8>, Mistake<'a>> {
-    let mut words = line.split_whitespace();
-    match words.next() {
-        Some("number") => Ok(to_vec(heap, &Uint32Var(one_number(words)?))?),
-        Some("packed") => {
+// The bytes that a command and the words behind it ask for.
+fn answer<'a>(
+    heap: Global,
+    command: &'a str,
+    words: SplitWhitespace<'a>,
+) -> Result<Vec<u8>, Mistake<'a>> {
+    match command {
+        "number" => Ok(to_vec(heap, &Uint32Var(one_number(words)?))?),
+        "packed" => {
             let values = numbers(heap, words)?;
             Ok(to_vec(heap, &PackedDeltas(values.as_slice()))?)
         }
-        Some("index") => index_bytes(heap, words),
-        Some(other) => Err(Mistake::Command(other)),
-        None => Err(Mistake::Command("")),
+        "index" => index_bytes(heap, words),
+        other => Err(Mistake::Command(other)),
     }
 }
 
@@ -173,30 +133,21 @@ impl<'a> fmt::Display for Hex<'a> {
     }
 }
 
-// Says that standard input cannot be read.
-fn unreadable(rt: &HostRuntime, error: io::Error) -> Result<(), Failure> {
-    eprintln!(rt; "varc: standard input cannot be read: {error}")?;
-    Err(Failure::Refused)
-}
-
 // Answers each line of standard input on a line of its own. Blank lines and those that begin with '#' are passed over.
 pub fn encode(rt: &HostRuntime) -> Result<(), Failure> {
     let heap = rt.alloc();
     let mut refused = false;
-    let input = match BufReader::new(heap, rt.stdin()) {
-        Ok(input) => input,
-        Err(e) => return unreadable(rt, e),
-    };
+    let input = BufReader::new(heap, rt.stdin()).map_err(Failure::Input)?;
     for line in input.lines(heap) {
-        let line = match line {
-            Ok(line) => line,
-            Err(e) => return unreadable(rt, e),
+        let line = line.map_err(Failure::Input)?;
+        let mut words = line.as_str().split_whitespace();
+        let Some(command) = words.next() else {
+            continue;
         };
-        let text = line.as_str().trim();
-        if text.is_empty() || text.starts_with('#') {
+        if command.starts_with('#') {
             continue;
         }
-        match answer(heap, text) {
+        match answer(heap, command, words) {
             Ok(bytes) => {
                 let hex = Hex(bytes.as_slice());
                 println!(rt; "{hex}")?;

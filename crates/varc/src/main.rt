@@ -5,7 +5,7 @@ mod encode_lines;
 mod sum;
 
 use std::process::ExitCode;
-use std::{env, io};
+use std::{env, fmt, io};
 
 const USAGE: &str = "varc: variable composites of OpenType fonts (the VARC table)
 
@@ -21,8 +21,20 @@ varc ends with status 0 where everything was done, and with 1 where anything was
 enum Failure {
     // Something was refused, and standard error says what.
     Refused,
-    // The output could not be written.
+    Arguments(io::Error),
+    Input(io::Error),
     Output(io::Error),
+}
+
+impl fmt::Display for Failure {
+    fn fmt<W: fmt::Write>(&self, f: &mut fmt::Formatter<W>) -> fmt::Result {
+        match self {
+            Failure::Refused => write!(f, "refused"),
+            Failure::Arguments(e) => write!(f, "the arguments cannot be read: {e}"),
+            Failure::Input(e) => write!(f, "standard input cannot be read: {e}"),
+            Failure::Output(e) => write!(f, "the output cannot be written: {e}"),
+        }
+    }
 }
 
 impl From<io::Error> for Failure {
@@ -32,13 +44,7 @@ impl From<io::Error> for Failure {
 }
 
 fn run(rt: &HostRuntime) -> Result<(), Failure> {
-    let mut args = match env::args(rt) {
-        Ok(args) => args,
-        Err(e) => {
-            eprintln!(rt; "varc: the arguments cannot be read: {e}")?;
-            return Err(Failure::Refused);
-        }
-    };
+    let mut args = env::args(rt).map_err(Failure::Arguments)?;
     let _ = args.next();
     let Some(command) = args.next() else {
         return Ok(println!(rt; "{USAGE}")?);
@@ -60,13 +66,13 @@ fn run(rt: &HostRuntime) -> Result<(), Failure> {
     }
 }
 
-// A refusal is said where it is met, so that the status is all that is left to say here.
+// A refusal is said where it is met, so that only what cannot be read or written is left to say here.
 fn main(rt: HostRuntime) -> ExitCode {
     match run(&rt) {
         Ok(()) => ExitCode::SUCCESS,
         Err(Failure::Refused) => ExitCode::FAILURE,
-        Err(Failure::Output(e)) => {
-            let _ = eprintln!(rt; "varc: the output cannot be written: {e}");
+        Err(failure) => {
+            let _ = eprintln!(rt; "varc: {failure}");
             ExitCode::FAILURE
         }
     }
