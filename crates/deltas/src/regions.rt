@@ -2,7 +2,6 @@
 ghost use Rattle.std.specs.Prelude.{◌≡◌, ◌+◌, ◌≤◌, List, ◌++◌, map, length, take, Decides};
 ghost use Rattle.format.specs.declared.Coordinate.{Coordinate};
 ghost use Rattle.keys.specs.Places.{place};
-ghost use Rattle.memory.specs.Lists.{part};
 ghost use Rattle.deltas.specs.Regions.{has_peak, kept, region_sameness, held, regions_of};
 
 use format::Coordinate;

@@ -21,7 +21,7 @@ take_last_set n xs x some fits =
 -- the record of a component whose pairs stand there
 abbrev with_axes : Option Span → Given → Stored
 with_axes axes g = record {
-  reset_unspecified_axes = g.reset;
+  reset_unspecified_axes = g.reset_unspecified_axes;
   gid = g.gid;
   condition = g.condition;
   axes = axes;

@@ -1,9 +1,8 @@
 -- Composites: begun, given components, closed or cancelled.
-use Rattle.std.specs.Prelude.{◌≡◌, ℕ, ◌+◌, ◌-◌, ◌≤◌, Bool, true, List, [], ◌∷◌, ◌++◌, map, length, take, is_some, IfSome, ℤ, Some, None, Option, Result}
+use Rattle.std.specs.Prelude.{◌≡◌, ℕ, ◌+◌, ◌-◌, ◌≤◌, true, List, [], ◌∷◌, ◌++◌, map, length, take, is_some, IfSome, Some, None, Option, Result}
 use Rattle.std.specs.Borrow.{Bor}
 use Rattle.std.specs.Option.{option_map}
 use Rattle.std.specs.List.{AllByRecursion}
-use Rattle.format.specs.declared.Transform.{Transform}
 use Rattle.keys.specs.Numbers.{AscendingNumbers}
 use Rattle.memory.specs.Fit.{Known, Within}
 use Rattle.memory.specs.Lists.{Lists, Stored}
@@ -88,18 +87,12 @@ begun s =
 -- component
 
 -- a component as it was handed in
-pub record Given : Type 0 where
-  pub reset : Bool
-  pub gid : ℕ
-  pub condition : Option ℕ
-  pub axes : Option (List Pair)
-  pub axis_values_var : Option TemporaryDeltaSetId
-  pub transform_var : Option TemporaryDeltaSetId
-  pub transform : Transform (Option ℤ)
+abbrev pub Given : Type 0
+Given = Component (List Pair) TemporaryDeltaSetId
 
 abbrev pub given : Component (Bor (List Pair)) TemporaryDeltaSetId → Given
 given c = record {
-  reset = c.reset_unspecified_axes;
+  reset_unspecified_axes = c.reset_unspecified_axes;
   gid = c.gid;
   condition = c.condition;
   axes = option_map (λ x. x.now) c.axes;
@@ -127,7 +120,7 @@ pub record Opens (j : Job) (t : OpenComposite) : Type 0 where
 -- the record of a component whose pairs stand from a place on
 abbrev pub stored : ℕ → Given → Stored
 stored at g = record {
-  reset_unspecified_axes = g.reset;
+  reset_unspecified_axes = g.reset_unspecified_axes;
   gid = g.gid;
   condition = g.condition;
   axes = spanned at g.axes;

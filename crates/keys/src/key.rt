@@ -17,7 +17,8 @@ pub trait Key {
     // When two meanings are the same.
     ghost sameness: { Sameness Meaning };
 
-    // Whether the two mean the same.
+    // Whether the two mean the same. A method beside `==`: keys of a kind may differ in more than what they mean, as lists of entries
+    // that are known by their regions alone, and an `==` of theirs would have to be proved an equivalence to say the same again.
     fn same(&self, other: &Self) -> bool
         ensures { Decides result (meaning self.now ≡ meaning other.now) };
 }

@@ -3,7 +3,6 @@ ghost use Rattle.std.specs.Prelude.{Decides};
 ghost use Rattle.memory.specs.Fit.{Fits};
 ghost use Rattle.memory.specs.Lists.{lists};
 
-use crate::fit::whole::{filled, sound};
 use crate::memory::{Counts, Mark, Memory};
 
 pub mod groups;
@@ -15,5 +14,5 @@ pub mod whole;
 pub fn fits(counts: &Counts, mark: Option<Mark>, mem: &Memory<'_>) -> bool
     ensures { Decides result (Fits counts.now mark (lists mem.now)) }
 {
-    filled(counts, mem).is_some_and(|f| sound(mark, &f))
+    mem.filled(counts).is_some_and(|f| f.sound(mark))
 }

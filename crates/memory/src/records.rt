@@ -83,7 +83,7 @@ impl Numbered for Pair {
 
 // A component. Its axis values are a part of the list of pairs and its two variations go by temporary ids, where it is not said
 // otherwise.
-#[derive(Clone, Copy, Drop)]
+#[derive(Clone, Copy, PartialEq, Eq, Debug, Drop)]
 pub struct Component<A = Span, V = TemporaryDeltaSetId> {
     pub reset_unspecified_axes: bool,
     pub gid: u32,

@@ -1,8 +1,8 @@
 // One call of a run.
-ghost use Rattle.std.specs.Prelude.{◌≡◌, Some};
+ghost use Rattle.std.specs.Prelude.{◌≡◌};
 ghost use Rattle.memory.specs.Lists.{lists};
-ghost use Rattle.job.specs.Composites.{Opens, Below, KeepsBelow, given};
-ghost use Rattle.job.specs.Outcome.{JobFits, state};
+ghost use Rattle.job.specs.Composites.{KeepsBelow};
+ghost use Rattle.job.specs.Outcome.{state};
 ghost use Rattle.run.specs.Steps.{shown, spent, OnOpenSteps, ShowsAnother};
 
 use job::{Job, Kept, OpenComposite, VarComponent};

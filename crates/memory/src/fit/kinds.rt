@@ -1,5 +1,5 @@
 // The test of each kind of record.
-ghost use Rattle.std.specs.Prelude.{◌≡◌, length, IfSome, Decides};
+ghost use Rattle.std.specs.Prelude.{Decides};
 ghost use Rattle.std.specs.List.{AllByRecursion};
 ghost use Rattle.memory.specs.Fit.{RegionFits, EntryFits, SetFits, ComponentFits, AxesFit, Known, Within};
 
