@@ -1,7 +1,8 @@
 // The kinds of numbers that deltas come in.
 ghost use Rattle.std.specs.Prelude.{◌≡◌, ℤ};
 
-// A kind of number that widens to 32 bits.
+// A kind of number that widens to 32 bits. A trait of its own and not `Into<i32>`: what `From` promises is a relation, and a clause over
+// a list of values wants a function.
 pub trait Number {
     // The number, by its raw value.
     ghost widened: { Self → ℤ };

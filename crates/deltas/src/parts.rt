@@ -52,6 +52,7 @@ pub fn parts_ascend(parts: &[Part], coordinates: &[Coordinate]) -> bool
     requires { axes_total parts.now ≡ length coordinates.now }
     ensures { Decides result (AllByRecursion Ascends (cuts parts.now coordinates.now)) }
 {
+    // The rest is cut off part by part: in a chain, a closure would have to carry it and change what it captures.
     let mut rest = coordinates;
     for p in parts {
         let (own, more) = rest.split_at(p.axes as usize);

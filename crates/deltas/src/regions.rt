@@ -15,7 +15,8 @@ pub fn peaks(c: &Coordinate) -> bool
     c.peak != 0
 }
 
-// Writes the coordinates that have a peak behind the filled ones, and answers how many are filled then.
+// Writes the coordinates that have a peak behind the filled ones, and answers how many are filled then. The list is lent, and not a
+// `Vec`: nothing is allocated.
 pub fn put_kept(list: &mut [Coordinate], filled: usize, from: &[Coordinate]) -> usize
     requires { filled + length (kept from.now) ≤ length list.old }
     ensures count { result ≡ filled + length (kept from.now) }

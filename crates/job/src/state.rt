@@ -3,7 +3,7 @@ use memory::{Component, Counts, Mark, Pair, Refusal};
 
 pub mod calls;
 
-// A job under way.
+// A job under way. It is plain numbers, and does not hold its memory: that is lent anew to every call.
 #[derive(Drop)]
 pub struct Job {
     number: u32,

@@ -268,7 +268,7 @@ fn spanning(at: u32, axes: Option<&[Pair]>) -> Option<Span>
     })
 }
 
-// Writes records behind the filled ones.
+// Writes records behind the filled ones. The list is lent, and not a `Vec`: nothing is allocated.
 fn append<T: Copy>(list: &mut [T], at: usize, new: &[T])
     requires { at + length new.now ≤ length list.old }
     ensures { take (at + length new.now) list.new ≡ take at list.old ++ new.now }
