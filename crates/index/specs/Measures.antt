@@ -1,8 +1,12 @@
 -- What is measured of an INDEX before it is written.
-use Rattle.std.specs.Prelude.{◌≡◌, ℕ, ◌+◌, ◌*◌, ◌≤◌, cond, List, length, ◌==◌}
+use Rattle.std.specs.Prelude.{◌≡◌, ℕ, ◌+◌, ◌*◌, ◌≤◌, cond, List, [], length, ◌==◌, nat_le}
 use Rattle.sink.specs.Kinds.{longest}
 use Rattle.format.specs.Index.{concat, offset_size, index}
 use Rattle.index.specs.declared.index.Measure.{Measure}
+
+-- the bytes of an INDEX that a table may hold: where it would be too long, there are none
+abbrev pub short_index : List (List ℕ) → List ℕ
+short_index items = cond (nat_le (length (index items)) longest) (index items) []
 
 -- how long the INDEX is of so many items with so many bytes
 abbrev pub index_length : ℕ → ℕ → ℕ

@@ -1,16 +1,15 @@
 // An INDEX over any bank of items.
-ghost use Rattle.std.specs.Prelude.{◌≡◌, ◌+◌, ◌<◌, ◌≤◌, length, MatchResult, ⊤};
+ghost use Rattle.std.specs.Prelude.{◌≡◌, ◌+◌, ◌<◌, ◌≤◌, length, MatchResult};
 ghost use Rattle.std.specs.List.{flat_map};
 ghost use Rattle.sink.specs.Meaning.{WhileRoom};
 ghost use Rattle.write.specs.Bytes.{be};
 ghost use Rattle.format.specs.Index.{concat, offsets, offset_size, index};
 ghost use Rattle.sink.specs.Kinds.{longest};
 ghost use Rattle.encode.specs.Lengths.{measured};
-ghost use Rattle.index.specs.Measures.{index_length, Measures};
+ghost use Rattle.index.specs.Measures.{short_index, index_length, Measures};
 
 use crate::items::Items;
 use sink::{Full, LONGEST, Sink};
-use std::alloc::AllocError;
 use write::{FontWrite, put_all};
 
 // Refusal 13: the bytes would be more than a table may have.
@@ -34,26 +33,21 @@ struct Measure {
     data_len: u32,
 }
 
-// The items of a bank as an INDEX that a table may hold, with what was measured of them.
+// A bank whose INDEX a table may hold, with what was measured of it.
 #[derive(Drop)]
-pub struct Index<B: Items> {
-    bank: B,
+struct Measured<'a, B: Items> {
+    bank: &'a B,
     measure: Measure,
-    ghost measured: { Measures (B.items bank) measure },
+    ghost is: { Measures (B.items bank.now) measure },
 }
 
-// Where the bank is copied: a clone of another bank may have other items, which were not measured.
-impl<B: Items + Copy> Clone for Index<B> {
-    ghost is_clone = { λ x y. y ≡ x };
-
-    ghost is_infallible = { λ _. ⊤ };
-
-    fn clone(&self) -> Result<Index<B>, AllocError> {
-        Ok(*self)
-    }
+// The items of a bank as an INDEX. It is made by `from_items` alone, which sees to it that a table may hold it; where it may not, it
+// stands for no bytes (`short_index`). The type does not say so by a ghost field: that would ask `B: Items` of each type that holds
+// one, and take `Clone` from banks that are not `Copy`.
+#[derive(Clone, Copy)]
+pub struct Index<B> {
+    bank: B,
 }
-
-impl<B: Items + Copy> Copy for Index<B> {}
 
 // A number of bytes, or of items, that a table may have.
 fn short(n: usize) -> Result<u32, TooLong>
@@ -142,36 +136,63 @@ fn write_items<B: Items, S: Sink>(bank: &B, sink: &mut S) -> Result<(), Full>
     Ok(())
 }
 
-impl<B: Items> Index<B> {
-    // The INDEX of a bank; refused where it would be too long for a table.
-    pub fn from_items(bank: B) -> Result<Index<B>, TooLong>
-    where
-        B: Drop,
-        ensures { MatchResult result (λ x. (x.bank ≡ bank) × (length (index (B.items bank)) ≤ longest)) (λ _. longest < length (index (B.items bank))) }
+impl<'a, B: Items> Measured<'a, B> {
+    // Measures a bank; refused where its INDEX would be too long.
+    fn new(bank: &'a B) -> Result<Measured<'a, B>, TooLong>
+        ensures { MatchResult result (λ m. (m.bank.now ≡ bank.now) × (length (index (B.items bank.now)) ≤ longest)) (λ _. longest < length (index (B.items bank.now))) }
     {
-        let measure = Measure::of(&bank)?;
-        Ok(Index { bank, measure })
+        let measure = Measure::of(bank)?;
+        Ok(Measured { bank, measure })
     }
 
-    // How many bytes it takes.
-    pub fn measure(&self) -> usize
-        ensures { result ≡ length (index (B.items self.now.bank)) }
+    // How long its INDEX is.
+    fn len(&self) -> usize
+        ensures { result ≡ length (index (B.items self.now.bank.now)) }
     {
         self.measure.index_len()
     }
-}
 
-impl<B: Items> FontWrite for Index<B> {
-    ghost bytes = { λ x. index (B.Items.items x.bank) };
-
-    fn write_while_room<S: Sink>(&self, sink: &mut S) -> Result<(), Full> {
+    // Writes its INDEX.
+    fn write<S: Sink>(&self, sink: &mut S) -> Result<(), Full>
+        ensures { WhileRoom S.meaning sink.old (index (B.items self.now.bank.now)) result sink.new }
+    {
         let count = self.measure.count;
         if count == 0 {
             return 0u32.write_while_room(sink);
         }
         let size = self.measure.offset_bytes();
         (count, size).write_while_room(sink)?;
-        write_offsets(&self.bank, size, sink)?;
-        write_items(&self.bank, sink)
+        write_offsets(self.bank, size, sink)?;
+        write_items(self.bank, sink)
+    }
+}
+
+impl<B: Items> Index<B> {
+    // The INDEX of a bank; refused where it would be too long for a table.
+    pub fn from_items(bank: B) -> Result<Index<B>, TooLong>
+    where
+        B: Drop,
+        ensures { MatchResult result (λ x. (x.bank ≡ bank) × (short_index (B.items x.bank) ≡ index (B.items bank))) (λ _. longest < length (index (B.items bank))) }
+    {
+        Measure::of(&bank)?;
+        Ok(Index { bank })
+    }
+
+    // How many bytes it takes.
+    pub fn measure(&self) -> usize
+        ensures { result ≡ length (short_index (B.items self.now.bank)) }
+    {
+        Measured::new(&self.bank).map_or(0, |m| m.len())
+    }
+}
+
+impl<B: Items> FontWrite for Index<B> {
+    ghost bytes = { λ x. short_index (B.Items.items x.bank) };
+
+    fn write_while_room<S: Sink>(&self, sink: &mut S) -> Result<(), Full> {
+        match Measured::new(&self.bank) {
+            Ok(m) => m.write(sink),
+            Err(TooLong) => Ok(()),
+        }
     }
 }

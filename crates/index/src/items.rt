@@ -25,23 +25,6 @@ pub trait Items {
         ensures { WhileRoom S.meaning sink.old (slice_index_or (items self.now) i []) result sink.new };
 }
 
-// A bank that is borrowed.
-impl<B: Items> Items for &B {
-    ghost items = { λ b. B.Items.items b.now };
-
-    fn count(&self) -> usize {
-        (**self).count()
-    }
-
-    fn item_len(&self, i: usize) -> usize {
-        (**self).item_len(i)
-    }
-
-    fn write_item<S: Sink>(&self, i: usize, sink: &mut S) -> Result<(), Full> {
-        (**self).write_item(i, sink)
-    }
-}
-
 // Items that are given as byte strings.
 #[derive(Clone, Copy)]
 pub struct ByteStrings<'a, 'b>(pub &'a [&'b [u8]]);

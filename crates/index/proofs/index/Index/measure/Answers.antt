@@ -1,6 +1,0 @@
-use Rattle.std.proofs.Common.{◌∙◌}
-use Rattle.index.proofs.Laying.{measured_length}
-use Rattle.index.proofs.index.Index.measure.Goals as goal
-
-pub returns : goal.returns
-returns g c = c.index_len.ensures ∙ measured_length (g.B.Items.items c.args.self.now.bank) c.args.self.now.measure c.args.self.now.measured
