@@ -24,12 +24,7 @@ const DELTAS_ARE_WORDS: u8 = 0x40;
 fn value_len(width: Width) -> usize
     ensures { result ≡ width_size width }
 {
-    match width {
-        Width::Zero => 0,
-        Width::One => 1,
-        Width::Two => 2,
-        Width::Four => 4,
-    }
+    width as usize
 }
 
 // Writes a value in the bytes of its width: the last of its four.

@@ -63,20 +63,14 @@ fn stops_at<V: Deltas>(w: Width, values: &V, i: usize) -> bool
     ensures { result ≡ stops w (wide (slice_index_or (V.deltas values.now) i (pos 0))) (drop (i + 1) (V.deltas values.now)) }
 {
     match (w, width_at(values, i)) {
-        (Width::Zero, Width::Zero) => false,
-        (Width::Zero, _) => true,
         (Width::One, Width::Zero) => begins(values, i + 1, false),
-        (Width::One, Width::One) => false,
-        (Width::One, _) => true,
         (Width::Two, Width::One) => begins(values, i + 1, true),
-        (Width::Two, Width::Two) => false,
-        (Width::Two, _) => true,
-        (Width::Four, Width::Four) => false,
-        (Width::Four, _) => true,
+        (w, v) => v != w,
     }
 }
 
-// The run that begins at a place: how many values it takes, and in which width; none at the end.
+// The run that begins at a place: how many values it takes, and in which width; at the end none, of width zero, as the definition
+// `next_run` has it.
 pub fn next_run_len<V: Deltas>(values: &V, from: usize) -> (usize, Width)
     ensures { result ≡ next_run (drop from (V.deltas values.now)) }
 {

@@ -19,10 +19,10 @@ pub struct Coordinate {
 // How many bytes each value of a run of packed values takes.
 #[derive(Clone, Copy, PartialEq, Eq, Debug)]
 pub enum Width {
-    Zero,
-    One,
-    Two,
-    Four,
+    Zero = 0,
+    One = 1,
+    Two = 2,
+    Four = 4,
 }
 
 // The part of a reader that met a fault.
@@ -69,7 +69,7 @@ pub struct Fault {
 
 // The nine numbers that place a component: translation and centre in font units, rotation and skew in half turns (4.12), scale
 // (6.10). A record has each where it is present.
-#[derive(Clone, Copy, PartialEq, Eq, Debug, Default)]
+#[derive(Clone, Copy, PartialEq, Eq, Debug)]
 pub struct Transform<T = Option<i16>> {
     pub translate_x: T,
     pub translate_y: T,
@@ -80,6 +80,23 @@ pub struct Transform<T = Option<i16>> {
     pub skew_y: T,
     pub center_x: T,
     pub center_y: T,
+}
+
+// Nothing is present. By hand: a derived default would be one of the settled numbers too, and theirs are not all zero.
+impl Default for Transform {
+    fn default() -> Transform {
+        Transform {
+            translate_x: None,
+            translate_y: None,
+            rotation: None,
+            scale_x: None,
+            scale_y: None,
+            skew_x: None,
+            skew_y: None,
+            center_x: None,
+            center_y: None,
+        }
+    }
 }
 
 // The same nine numbers, settled: what is absent has its default.

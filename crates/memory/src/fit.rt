@@ -14,5 +14,5 @@ pub mod whole;
 pub fn fits(counts: &Counts, mark: Option<Mark>, mem: &Memory<'_>) -> bool
     ensures { Decides result (Fits counts.now mark (lists mem.now)) }
 {
-    mem.filled(counts).is_some_and(|f| f.sound(mark))
+    mem.counted(counts) && mem.filled(counts).sound(mark)
 }

@@ -94,14 +94,9 @@ impl Job {
         ensures outcome { Closes self.old (lists mem.old) token result (state self.new (lists mem.new)) }
         ensures keeps { Keeps self.old (lists mem.old) self.new (lists mem.new) }
     {
-        match self.spendable(mem, &token) {
-            Ok(begun) => {
-                token.spend();
-                self.put_closed(mem, begun);
-                Ok(())
-            }
-            Err(refusal) => Err(Kept { token, refusal }),
-        }
+        let begun = self.spend(mem, token)?;
+        self.put_closed(mem, begun);
+        Ok(())
     }
 
     // Cancels the open composite: its components and pairs are free again; regions and sets stay.
@@ -109,17 +104,12 @@ impl Job {
         ensures outcome { Cancels self.old (lists mem.now) token result (state self.new (lists mem.now)) }
         ensures keeps { KeepsBelow self.old (lists mem.now) self.new (lists mem.now) }
     {
-        match self.spendable(mem, &token) {
-            Ok(begun) => {
-                token.spend();
-                self.counts.composites -= 1;
-                self.counts.components = begun.components;
-                self.counts.pairs = begun.pairs;
-                self.mark = None;
-                Ok(())
-            }
-            Err(refusal) => Err(Kept { token, refusal }),
-        }
+        let begun = self.spend(mem, token)?;
+        self.counts.composites -= 1;
+        self.counts.components = begun.components;
+        self.counts.pairs = begun.pairs;
+        self.mark = None;
+        Ok(())
     }
 
     // Whether the filled records fit together and lie within the memory.
@@ -139,14 +129,24 @@ impl Job {
         self.mark
     }
 
-    // Where the composite was begun that this token can close or cancel, or why it can't.
-    fn spendable(&self, mem: &Memory<'_>, token: &OpenComposite) -> Result<Mark, Refusal>
-        ensures { MatchResult result (λ m. NoneOf (spend_checks self.now (lists mem.now) token.now) × (self.now.mark ≡ Some m)) (FirstOf (spend_checks self.now (lists mem.now) token.now)) }
+    // Spends the token of the open composite, and answers where that was begun; or hands it back, and says why.
+    fn spend(&self, mem: &Memory<'_>, token: OpenComposite) -> Result<Mark, Kept>
+        ensures { MatchResult result (λ m. NoneOf (spend_checks self.now (lists mem.now) token) × (self.now.mark ≡ Some m)) (λ k. FirstOf (spend_checks self.now (lists mem.now) token) k.refusal × (k.token ≡ token)) }
     {
         if !self.fits_in(mem) {
-            return Err(Refusal::Memory);
+            return Err(Kept {
+                token,
+                refusal: Refusal::Memory,
+            });
         }
-        self.opened(token).ok_or(Refusal::NotOpen)
+        let Some(begun) = self.opened(&token) else {
+            return Err(Kept {
+                token,
+                refusal: Refusal::NotOpen,
+            });
+        };
+        token.let_go();
+        Ok(begun)
     }
 
     fn has_component_room(&self, mem: &Memory<'_>, pairs: usize) -> bool
@@ -162,8 +162,7 @@ impl Job {
         requires room { Room 1 self.old.counts.composites (length mem.old.composites.now) }
         ensures answer { result ≡ token_of self.old }
         ensures leaves { state self.new (lists mem.new) ≡ begun (state self.old (lists mem.old)) }
-        ensures kept { JobFits self.new (lists mem.new) }
-        ensures below { Below (state self.new (lists mem.new)) }
+        ensures keeps { Keeps self.old (lists mem.old) self.new (lists mem.new) }
     {
         let at = self.counts.composites;
         mem.composites[at as usize] = Span {
@@ -189,8 +188,7 @@ impl Job {
         requires gid { component.gid ≤ 0xFFFFFF }
         requires ids { IdsKnown self.old.counts.sets (given component) }
         ensures leaves { state self.new (lists mem.new) ≡ added (given component.entry) (state self.old (lists mem.old)) }
-        ensures kept { JobFits self.new (lists mem.new) }
-        ensures below { Below (state self.old (lists mem.old)) → Below (state self.new (lists mem.new)) }
+        ensures keeps { Keeps self.old (lists mem.old) self.new (lists mem.new) }
     {
         let new = pairs_of(component.axes);
         let at = self.counts.pairs;
@@ -214,8 +212,7 @@ impl Job {
         requires fits { JobFits self.old (lists mem.old) }
         requires mark { self.old.mark ≡ Some begun }
         ensures leaves { state self.new (lists mem.new) ≡ closed (state self.old (lists mem.old)) }
-        ensures kept { JobFits self.new (lists mem.new) }
-        ensures below { Below (state self.new (lists mem.new)) }
+        ensures keeps { Keeps self.old (lists mem.old) self.new (lists mem.new) }
     {
         let count = self.counts.components - begun.components;
         mem.composites[self.counts.composites as usize - 1] = Span {
@@ -227,7 +224,7 @@ impl Job {
 }
 
 impl OpenComposite {
-    fn spend(self) {
+    fn let_go(self) {
         let OpenComposite {
             job: _,
             composite: _,

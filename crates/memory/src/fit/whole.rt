@@ -1,5 +1,5 @@
 // The whole test.
-ghost use Rattle.std.specs.Prelude.{◌≡◌, IfSome, MatchOption, Decides};
+ghost use Rattle.std.specs.Prelude.{◌≡◌, IfSome, Decides};
 ghost use Rattle.memory.specs.Fit.{Counted, Sound, MarkFits};
 ghost use Rattle.memory.specs.Lists.{held, lists, seen};
 
@@ -8,21 +8,37 @@ use crate::fit::kinds::{components_fit, entries_fit, regions_fit, sets_fit, span
 use crate::memory::{Counts, Filled, Mark, Memory};
 
 impl Memory<'_> {
-    // The filled part, none where a count exceeds its list.
-    pub fn filled(&self, n: &Counts) -> Option<Filled<'_>>
-        ensures { MatchOption result (Counted n.now (lists self.now) → ⊥) (λ f. Counted n.now (lists self.now) × (seen f ≡ held n.now (lists self.now))) }
+    // Whether no count exceeds its list.
+    pub fn counted(&self, n: &Counts) -> bool
+        ensures { Decides result (Counted n.now (lists self.now)) }
     {
-        Some(Filled {
-            coordinates: self.coordinates.get(..n.coordinates as usize)?,
-            regions: self.regions.get(..n.regions as usize)?,
-            values: self.values.get(..n.values as usize)?,
-            entries: self.entries.get(..n.entries as usize)?,
-            sets: self.sets.get(..n.sets as usize)?,
-            pairs: self.pairs.get(..n.pairs as usize)?,
-            components: self.components.get(..n.components as usize)?,
-            composites: self.composites.get(..n.composites as usize)?,
-            axis_lists: self.axis_lists.get(..n.axis_lists as usize)?,
-        })
+        n.coordinates as usize <= self.coordinates.len()
+            && n.regions as usize <= self.regions.len()
+            && n.values as usize <= self.values.len()
+            && n.entries as usize <= self.entries.len()
+            && n.sets as usize <= self.sets.len()
+            && n.pairs as usize <= self.pairs.len()
+            && n.components as usize <= self.components.len()
+            && n.composites as usize <= self.composites.len()
+            && n.axis_lists as usize <= self.axis_lists.len()
+    }
+
+    // The filled part.
+    pub fn filled(&self, n: &Counts) -> Filled<'_>
+        requires { Counted n.now (lists self.now) }
+        ensures { seen result ≡ held n.now (lists self.now) }
+    {
+        Filled {
+            coordinates: &self.coordinates[..n.coordinates as usize],
+            regions: &self.regions[..n.regions as usize],
+            values: &self.values[..n.values as usize],
+            entries: &self.entries[..n.entries as usize],
+            sets: &self.sets[..n.sets as usize],
+            pairs: &self.pairs[..n.pairs as usize],
+            components: &self.components[..n.components as usize],
+            composites: &self.composites[..n.composites as usize],
+            axis_lists: &self.axis_lists[..n.axis_lists as usize],
+        }
     }
 }
 

@@ -1,6 +1,6 @@
 #![tactic(auto, unfolding(crate::specs::Bytes::be))]
 
-ghost use Rattle.std.specs.Prelude.{◌≡◌, ◌^◌, ◌<◌, ◌≤◌, MatchOption};
+ghost use Rattle.std.specs.Prelude.{◌≡◌, ◌^◌, ◌≤◌, MatchOption};
 ghost use Rattle.write.specs.Bytes.{be};
 
 use crate::uint24::Uint24;

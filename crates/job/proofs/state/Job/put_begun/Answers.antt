@@ -14,6 +14,8 @@ returns c =
     record {
       answer = refl;
       leaves = leaves;
-      kept = still_fits _ _ _ _ _ _ _ _ _ fits refl fits.counted.pairs fits.counted.components (simp length-set c.requires.room.within) (ap (λ s. s.held) leaves) (begun_sound j _ fits);
-      below = subst Below (sym leaves) (begun_below j _ fits);
+      keeps = record {
+        fits = λ _. still_fits _ _ _ _ _ _ _ _ _ fits refl fits.counted.pairs fits.counted.components (simp length-set c.requires.room.within) (ap (λ s. s.held) leaves) (begun_sound j _ fits);
+        below = λ _. subst Below (sym leaves) (begun_below j _ fits);
+      };
     }

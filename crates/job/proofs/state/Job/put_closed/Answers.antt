@@ -12,6 +12,8 @@ returns c =
     let leaves = close_leaves j _ fits _ c.requires.mark in
     record {
       leaves = leaves;
-      kept = still_fits _ _ _ _ _ _ _ _ _ fits refl fits.counted.pairs fits.counted.components (simp length-set fits.counted.composites) refl (subst SoundState (sym leaves) (closed_sound j _ fits _ c.requires.mark));
-      below = tt;
+      keeps = record {
+        fits = λ _. still_fits _ _ _ _ _ _ _ _ _ fits refl fits.counted.pairs fits.counted.components (simp length-set fits.counted.composites) refl (subst SoundState (sym leaves) (closed_sound j _ fits _ c.requires.mark));
+        below = λ _. tt;
+      };
     }

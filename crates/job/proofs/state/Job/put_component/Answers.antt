@@ -17,9 +17,11 @@ returns c =
     c.pairs_of-new.ensures c.spanning-axes.ensures room.component.within c.append.ensures in
     record {
       leaves = leaves;
-      kept =
-          still_fits _ _ _ _ _ _ _ _ _ fits refl (omega (arith, c.append.auto.list, room.pairs.within, ap length c.pairs_of-new.ensures))
-          (simp length-set room.component.within) fits.counted.composites (ap (λ s. s.held) leaves)
-          (added_sound j _ fits g c.requires.order c.requires.gid c.requires.ids);
-      below = λ h. subst Below (sym leaves) (added_below j _ fits g h);
+      keeps = record {
+        fits = λ _.
+            still_fits _ _ _ _ _ _ _ _ _ fits refl (omega (arith, c.append.auto.list, room.pairs.within, ap length c.pairs_of-new.ensures))
+            (simp length-set room.component.within) fits.counted.composites (ap (λ s. s.held) leaves)
+            (added_sound j _ fits g c.requires.order c.requires.gid c.requires.ids);
+        below = λ h. subst Below (sym leaves) (added_below j _ fits g h);
+      };
     }
