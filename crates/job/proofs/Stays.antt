@@ -4,10 +4,10 @@ use Rattle.std.proofs.lemmas.List.{length-take-le, length-append, length_push, t
 use Rattle.std.proofs.lemmas.Option.{IfSome_then}
 use Rattle.std.proofs.ByRecursion.{All-push, All-weaker, All-take}
 use Rattle.memory.specs.Lists.{Stored, Lists, held}
-use Rattle.memory.specs.Fit.{Sound, MarkFits, ComponentFits, AxesFit, Within}
+use Rattle.memory.specs.Fit.{IdsKnown, Sound, MarkFits, ComponentFits, AxesFit, Within}
 use Rattle.keys.specs.Numbers.{AscendingNumbers}
 use Rattle.job.specs.Outcome.{State, state, JobFits}
-use Rattle.job.specs.Composites.{Given, listed, spanned, stored, IdsKnown, begun, added, closed, closed_at, cancelled_at, BelowMark, Below}
+use Rattle.job.specs.Composites.{Given, listed, spanned, stored, begun, added, closed, closed_at, cancelled_at, BelowMark, Below}
 use Rattle.job.specs.declared.state.Job.{Job}
 use Rattle.memory.specs.declared.memory.Mark.{Mark}
 use Rattle.memory.specs.declared.records.Pair.{Pair}

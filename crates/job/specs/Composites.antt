@@ -4,7 +4,7 @@ use Rattle.std.specs.Borrow.{Bor}
 use Rattle.std.specs.Option.{option_map}
 use Rattle.std.specs.List.{AllByRecursion}
 use Rattle.keys.specs.Numbers.{AscendingNumbers}
-use Rattle.memory.specs.Fit.{Known, Within}
+use Rattle.memory.specs.Fit.{IdsKnown, Within}
 use Rattle.memory.specs.Lists.{Lists, Stored}
 use Rattle.memory.specs.declared.memory.Counts.{Counts}
 use Rattle.memory.specs.declared.memory.Mark.{Mark}
@@ -128,10 +128,6 @@ stored at g = record {
   transform_var = g.transform_var;
   transform = g.transform;
 }
-
-pub record IdsKnown (sets : ℕ) (g : Given) : Type 0 where
-  pub axis_values_var : IfSome g.axis_values_var (Known sets)
-  pub transform_var : IfSome g.transform_var (Known sets)
 
 -- room for a component and its pairs
 pub record ComponentRoom (more : ℕ) (n : Counts) (l : Lists) : Type 0 where

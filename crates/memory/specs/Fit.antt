@@ -7,6 +7,7 @@ use Rattle.memory.specs.Lists.{Lists, Stored, held, part}
 use Rattle.memory.specs.declared.memory.Counts.{Counts}
 use Rattle.memory.specs.declared.memory.Mark.{Mark}
 use Rattle.format.specs.declared.Coordinate.{Coordinate}
+use Rattle.memory.specs.declared.records.Component.{Component}
 use Rattle.memory.specs.declared.records.DeltaSet.{DeltaSet}
 use Rattle.memory.specs.declared.records.Entry.{Entry}
 use Rattle.memory.specs.declared.records.Pair.{Pair}
@@ -42,6 +43,11 @@ pub record AxesFit (pairs : List Pair) (s : Span) : Type 0 where
 -- a temporary id: the sentinel, or the place of a set
 abbrev pub Known : ℕ → TemporaryDeltaSetId → Type 0
 Known sets id = (id.0 ≡ 0xFFFFFFFF) ⊎ (id.0 < sets)
+
+-- the ids of a component's two variations, where they are present
+pub record IdsKnown {A : Type 0} (sets : ℕ) (c : Component A TemporaryDeltaSetId) : Type 0 where
+  pub axis_values_var : IfSome c.axis_values_var (Known sets)
+  pub transform_var : IfSome c.transform_var (Known sets)
 
 pub record ComponentFits (pairs : List Pair) (sets : ℕ) (c : Stored) : Type 0 where
   pub gid : c.gid ≤ 0xFFFFFF

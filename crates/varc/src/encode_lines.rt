@@ -117,7 +117,7 @@ fn answer<'a>(
     }
 }
 
-// Bytes in hex; '-' where there are none.
+// Bytes in hex; '-' where there are none. They are printed as they come: `hex::encode` would fill a `String` first.
 #[derive(Clone, Copy)]
 struct Hex<'a>(pub &'a [u8]);
 

@@ -6,7 +6,7 @@ ghost use Rattle.write.specs.Optional.{present};
 use crate::write::{FontWrite, put_all, write_each};
 use sink::{Full, Sink};
 
-// Bytes that stand for themselves.
+// Bytes that stand for themselves. A slice of `u8` stands for the same ones, as lists of one byte each, joined; here no list is joined.
 #[derive(Clone, Copy, PartialEq, Eq, Debug)]
 pub struct Bytes<'a>(pub &'a [u8]);
 

@@ -15,7 +15,7 @@ pub trait FontWrite {
         ensures { WhileRoom S.meaning sink.old (bytes self.now) result sink.new };
 }
 
-// Feeds the bytes one after the other, as long as there is room.
+// Feeds the bytes one after the other, as long as there is room: what `write_each` does at `u8`, with the bytes themselves in its clause.
 pub fn put_all<S: Sink>(all: &[u8], sink: &mut S) -> Result<(), Full>
     ensures { WhileRoom S.meaning sink.old all.now result sink.new }
 {

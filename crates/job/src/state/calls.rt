@@ -2,13 +2,13 @@
 ghost use Rattle.std.specs.Prelude.{◌≡◌, ◌+◌, ◌^◌, ◌<◌, ◌≤◌, ◌++◌, map, length, take, Some, Decides, MatchOption, MatchResult};
 ghost use Rattle.std.specs.Option.{option_map};
 ghost use Rattle.keys.specs.Numbers.{AscendingNumbers};
+ghost use Rattle.memory.specs.Fit.{IdsKnown};
 ghost use Rattle.memory.specs.Lists.{Lists, lists};
-ghost use Rattle.job.specs.Composites.{fresh, token as token_of, begun, given, listed, spanned, Opens, IdsKnown, ComponentRoom, added, closed, spend_checks, Below, Keeps, KeepsBelow, Begins, AddsComponent, Closes, Cancels};
+ghost use Rattle.job.specs.Composites.{fresh, token as token_of, begun, given, listed, spanned, Opens, ComponentRoom, added, closed, spend_checks, Below, Keeps, KeepsBelow, Begins, AddsComponent, Closes, Cancels};
 ghost use Rattle.job.specs.Outcome.{FirstOf, NoneOf, JobFits, Room, state};
 
 use crate::state::{Job, Kept, OpenComposite, VarComponent};
 use keys::numbers_ascend;
-use memory::fit::kinds::known;
 use memory::{Component, Counts, Mark, Memory, Pair, Refusal, Span, fits};
 
 // The most records of a list.
@@ -81,7 +81,7 @@ impl Job {
         if component.gid > 0xFFFFFF {
             return Err(Refusal::GlyphId);
         }
-        if !ids_known(&component, self.counts.sets as usize) {
+        if !component.ids_known(self.counts.sets as usize) {
             return Err(Refusal::UnknownId);
         }
         self.opened(token).ok_or(Refusal::NotOpen)?;
@@ -237,13 +237,6 @@ fn pairs_of<'a>(axes: Option<&'a [Pair]>) -> &'a [Pair]
     ensures { result.now ≡ listed (option_map (λ x. x.now) axes.entry) }
 {
     axes.unwrap_or(&[])
-}
-
-fn ids_known(component: &VarComponent<'_>, sets: usize) -> bool
-    ensures { Decides result (IdsKnown sets (given component.now)) }
-{
-    component.axis_values_var.is_none_or(|id| known(id, sets))
-        && component.transform_var.is_none_or(|id| known(id, sets))
 }
 
 // Whether n records more find room.

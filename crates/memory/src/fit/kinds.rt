@@ -1,7 +1,7 @@
 // The test of each kind of record.
 ghost use Rattle.std.specs.Prelude.{Decides};
 ghost use Rattle.std.specs.List.{AllByRecursion};
-ghost use Rattle.memory.specs.Fit.{RegionFits, EntryFits, SetFits, ComponentFits, AxesFit, Known, Within};
+ghost use Rattle.memory.specs.Fit.{RegionFits, EntryFits, SetFits, ComponentFits, AxesFit, IdsKnown, Known, Within};
 
 use crate::records::{
     Component, DeltaSet, Entry, NO_VARIATION_INDEX, Pair, Span, TemporaryDeltaSetId,
@@ -60,6 +60,16 @@ pub fn known(id: TemporaryDeltaSetId, sets: usize) -> bool
     id.0 == NO_VARIATION_INDEX || (id.0 as usize) < sets
 }
 
+impl<A> Component<A> {
+    // Whether the ids of its two variations, where they are present, are known.
+    pub fn ids_known(&self, sets: usize) -> bool
+        ensures { Decides result (IdsKnown sets self.now) }
+    {
+        self.axis_values_var.is_none_or(|id| known(id, sets))
+            && self.transform_var.is_none_or(|id| known(id, sets))
+    }
+}
+
 // Whether the axis values of a component lie within the pairs, and their axis numbers strictly ascend.
 fn axes_fit(axes: Span, pairs: &[Pair]) -> bool
     ensures { Decides result (AxesFit pairs.now axes) }
@@ -73,8 +83,7 @@ fn component_fits(component: &Component, pairs: &[Pair], sets: usize) -> bool
 {
     component.gid <= 0xFFFFFF
         && component.axes.is_none_or(|axes| axes_fit(axes, pairs))
-        && component.axis_values_var.is_none_or(|id| known(id, sets))
-        && component.transform_var.is_none_or(|id| known(id, sets))
+        && component.ids_known(sets)
 }
 
 // Whether each component fits.
