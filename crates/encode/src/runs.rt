@@ -37,7 +37,8 @@ fn width(v: i32) -> Width
     }
 }
 
-// The least width that holds the value at a place.
+// The least width that holds the value at a place. Here and below the values and a place come as two, and not as a walk: a run's end is
+// looked for at places that the walk has not come to.
 fn width_at<V: Deltas>(values: &V, i: usize) -> Width
     requires { i < length (V.deltas values.now) }
     ensures { result ≡ wide (slice_index_or (V.deltas values.now) i (pos 0)) }

@@ -8,4 +8,4 @@ mod word;
 
 pub use call::{Call, Deltas, Id, Line, Script, Stroke};
 pub use line::read;
-pub use mistake::{Mistake, Unread};
+pub use mistake::{Mistake, Place, Unread};

@@ -1,7 +1,7 @@
 // Reading a script, line by line.
 use crate::call::{Call, Deltas, Id, Line, Script, Stroke};
-use crate::mistake::Unread;
-use crate::word::{Number, Place, Word, words};
+use crate::mistake::{Place, Unread};
+use crate::word::{Number, Word, words};
 use deltas::Part;
 use format::{Coordinate, Transform};
 use hex::FromHexError;

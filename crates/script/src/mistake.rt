@@ -2,18 +2,23 @@
 use std::alloc::{AllocError, AllocFailed};
 use std::fmt;
 
-// Where a script cannot be read, and what was expected there. Lines and columns count from 1, columns in bytes.
+// Where a word stands, or one is missing. Lines and columns count from 1, columns in bytes.
 #[derive(Clone, Copy)]
-pub struct Mistake {
+pub struct Place {
     pub line: usize,
     pub column: usize,
+}
+
+// Where a script cannot be read, and what was expected there.
+#[derive(Clone, Copy)]
+pub struct Mistake {
+    pub place: Place,
     pub expected: &'static str,
 }
 
 impl fmt::Display for Mistake {
     fn fmt<W: fmt::Write>(&self, f: &mut fmt::Formatter<W>) -> fmt::Result {
-        let line = self.line;
-        let column = self.column;
+        let Place { line, column } = self.place;
         let expected = self.expected;
         write!(f, "{line}:{column}: expected {expected}")
     }

@@ -1,15 +1,8 @@
 // The words of a line, each with its place.
-use crate::mistake::{Mistake, Unread};
+use crate::mistake::{Mistake, Place, Unread};
 use std::alloc::{AllocError, Global};
 use std::num::ParseIntError;
 use std::str::FromStr;
-
-// Where a word stands, or one is missing. Lines and columns count from 1, columns in bytes.
-#[derive(Clone, Copy)]
-pub struct Place {
-    pub line: usize,
-    pub column: usize,
-}
 
 impl Place {
     // Where the line begins that so many lines stand above.
@@ -30,8 +23,7 @@ impl Place {
 
     pub fn wrong(self, expected: &'static str) -> Unread {
         Unread::Mistake(Mistake {
-            line: self.line,
-            column: self.column,
+            place: self,
             expected,
         })
     }
