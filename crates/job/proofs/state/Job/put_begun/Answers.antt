@@ -6,16 +6,12 @@ use Rattle.job.proofs.Moves.{begin_leaves}
 use Rattle.job.proofs.Still.{still_fits}
 use Rattle.job.proofs.state.Job.put_begun.Goals as goal
 
-pub returns : goal.returns
-returns c =
+pub returns-clause-keeps : goal.returns-clause-keeps
+returns-clause-keeps c =
     let j = c.args.self.now in
     let fits = c.requires.fits in
     let leaves = begin_leaves j _ fits c.requires.room in
     record {
-      answer = refl;
-      leaves = leaves;
-      keeps = record {
-        fits = λ _. still_fits _ _ _ _ _ _ _ _ _ fits refl fits.counted.pairs fits.counted.components (simp length-set c.requires.room.within) (ap (λ s. s.held) leaves) (begun_sound j _ fits);
-        below = λ _. subst Below (sym leaves) (begun_below j _ fits);
-      };
+      fits = λ _. still_fits _ _ _ _ _ _ _ _ _ fits refl fits.counted.pairs fits.counted.components (simp length-set c.requires.room.within) (ap (λ s. s.held) leaves) (begun_sound j _ fits);
+      below = λ _. subst Below (sym leaves) (begun_below j _ fits);
     }
