@@ -1,6 +1,7 @@
 -- Regions compared, one coordinate after the other.
-use Rattle.std.proofs.Common.{◌≡◌, ℕ, ◌<◌, List, [], ◌∷◌, map, length, get_or, sym, refl, ap, ◌∙◌, arith}
-use Rattle.std.proofs.lemmas.List.{length-map, get_or-map}
+use Rattle.std.proofs.Common.{◌≡◌, ℕ, ◌<◌, List, [], map, length, get_or, sym, ap, ◌∙◌, arith}
+use Rattle.std.proofs.lemmas.List.{length-map, get_or-map, map-id}
+use Rattle.std.proofs.lemmas.Simd.{map-map}
 use Rattle.format.specs.declared.Coordinate.{Coordinate}
 use Rattle.memory.specs.Lists.{part}
 use Rattle.memory.specs.declared.records.Span.{Span}
@@ -15,5 +16,4 @@ held_at cs rs i r k l e =
 
 -- what held regions mean
 pub held-means : (rs : List (List Coordinate)) → map (λ k. k.coordinates.now) (map held rs) ≡ rs
-held-means [] = refl
-held-means (r ∷ rs) = ap (λ xs. r ∷ xs) (held-means rs)
+held-means rs = map-map (λ k. k.coordinates.now) held rs ∙ map-id rs

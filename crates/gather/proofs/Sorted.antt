@@ -1,6 +1,7 @@
 -- Numbers that strictly ascend, and what is kept of them.
-use Rattle.std.proofs.Common.{ℕ, zero, suc, ◌+◌, ◌<◌, Bool, true, false, cond, List, [], ◌∷◌, map, length, get_or, filter, arith}
+use Rattle.std.proofs.Common.{ℕ, zero, suc, ◌+◌, ◌<◌, Bool, List, [], ◌∷◌, map, length, get_or, filter, arith}
 use native.Mathlib.Numerals.{unary_clauses}
+use Rattle.std.proofs.lemmas.Bool.{cond_both}
 use Rattle.std.specs.List.{AllByRecursion}
 use Rattle.std.proofs.ByRecursion.{All-weaker, All-get_or}
 use Rattle.keys.specs.Numbers.{AscendingNumbers}
@@ -29,20 +30,16 @@ sorted_next (n ∷ ns) h (suc i) l = simp unary_clauses (simp unary_clauses at (
 pub ascending : (ns : List ℕ) → Sorted ns → AscendingNumbers ns
 ascending ns h = record { next = sorted_next ns h }
 
-pub either : {X : Type 0} (P : X → Type 0) (b : Bool) (x y : X) → P x → P y → P (cond b x y)
-either P true x y h k = h
-either P false x y h k = k
-
 module _ {X : Type 0} (number : X → ℕ) (p : X → Bool) where
   pub all_kept : (P : ℕ → Type 0) (xs : List X) → AllByRecursion P (map number xs) → AllByRecursion P (map number (filter p xs))
   all_kept P [] h = tt
   all_kept P (x ∷ xs) h =
-      either (λ ys. AllByRecursion P (map number ys)) (p x) (x ∷ filter p xs) (filter p xs) (h.0, all_kept P xs h.1) (all_kept P xs h.1)
+      cond_both (p x) (x ∷ filter p xs) (filter p xs) (λ ys. AllByRecursion P (map number ys)) (λ _. (h.0, all_kept P xs h.1)) (λ _. all_kept P xs h.1)
 
   sorted_kept : (xs : List X) → Sorted (map number xs) → Sorted (map number (filter p xs))
   sorted_kept [] h = tt
   sorted_kept (x ∷ xs) h =
-      either (λ ys. Sorted (map number ys)) (p x) (x ∷ filter p xs) (filter p xs) (all_kept (λ m. number x < m) xs h.0, sorted_kept xs h.1) (sorted_kept xs h.1)
+      cond_both (p x) (x ∷ filter p xs) (filter p xs) (λ ys. Sorted (map number ys)) (λ _. (all_kept (λ m. number x < m) xs h.0, sorted_kept xs h.1)) (λ _. sorted_kept xs h.1)
 
   -- what is kept of ascending numbers ascends
   pub ascending_kept : (xs : List X) → AscendingNumbers (map number xs) → AscendingNumbers (map number (filter p xs))

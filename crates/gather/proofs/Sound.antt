@@ -1,5 +1,6 @@
 -- What a job holds is sound with a delta set added, where it was before.
 use Rattle.std.proofs.Common.{◌≡◌, ℕ, suc, ◌+◌, ◌<◌, ◌≤◌, Bool, true, false, cond, not, List, [], ◌∷◌, ◌++◌, map, length, drop, ℤ, Option, sym, refl, ap, ◌∙◌, subst, inl, inr, ⊎_elim, arith}
+use Rattle.std.proofs.lemmas.Bool.{cond_both}
 use Rattle.std.proofs.lemmas.Option.{IfSome_then}
 use Rattle.std.proofs.ByRecursion.{All-append, All-weaker, all_kept_by}
 use Rattle.std.proofs.lemmas.List.{append_assoc, length-append, length-take-le, length-drop}
@@ -19,7 +20,7 @@ use Rattle.deltas.specs.Deltas.{Handed, RegionTuple, NumberedTuple, tuples, used
 use Rattle.deltas.specs.Limits.{DeltaLimits}
 use Rattle.deltas.specs.Parts.{Ascends, AddUp, Level, tuple_len, values_total}
 use Rattle.deltas.specs.declared.parts.Part.{Part}
-use Rattle.gather.proofs.Sorted.{Sorted, sorted, ascending, all_kept, ascending_kept, either}
+use Rattle.gather.proofs.Sorted.{Sorted, sorted, ascending, all_kept, ascending_kept}
 
 -- regions
 
@@ -200,7 +201,7 @@ module _ (h : Lists) (d : Handed)
         All-append (EntryFits regions (length (h.values ++ flat_map (λ t. t.tuple) (cond b (delta_set h d) [])))) h.entries (entries_from (length h.values) (cond b (delta_set h d) []))
         (All-weaker _ _ (λ e f. record { region = omega (arith, f.region); place = omega (arith, f.place, n) }) h.entries old)
         (entries_new regions (length (h.values ++ flat_map (λ t. t.tuple) (cond b (delta_set h d) []))) (length h.values) (cond b (delta_set h d) [])
-        (either (λ ts. AllByRecursion (λ k. k < regions) (map (λ t. t.region) ts)) b (delta_set h d) [] (numbers_below regions more) tt)
+        (cond_both b (delta_set h d) [] (λ ts. AllByRecursion (λ k. k < regions) (map (λ t. t.region) ts)) (λ _. numbers_below regions more) (λ _. tt))
         (omega (arith, n)))
 
   pub delta_sound : (mark : Option Mark) → Sound mark h → Sound mark (with_added h (added h d))

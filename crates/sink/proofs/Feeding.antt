@@ -1,5 +1,5 @@
 -- How writes to a sink join: what the proof of a writer that calls others cites.
-use Rattle.std.proofs.Common.{◌≡◌, ℕ, ◌+◌, ◌-◌, ◌≤◌, true, List, [], ◌++◌, length, take, is_err, Ok, Err, Result, sym, refl, ap, ◌∙◌, arith, length-append}
+use Rattle.std.proofs.Common.{◌≡◌, ℕ, ◌+◌, ◌-◌, ◌≤◌, true, List, [], ◌++◌, length, take, is_err, Ok, Err, Result, sym, ap, ◌∙◌, arith, length-append}
 use Rattle.std.proofs.lemmas.List.{append-nil, append_assoc, take-append-le}
 use Rattle.std.proofs.Math.Seq.{take-append-add}
 use Rattle.sink.specs.Kinds.{held}
@@ -15,11 +15,6 @@ module _ {S : Type 0} (m : Meaning S) where
     pub joins : done ++ rest ≡ whole
 
 module _ {S : Type 0} {m : Meaning S} where
-  pub takes_none : (s : S) → Takes m s [] s
-  takes_none s =
-      let w = m.within s in
-      record { room = omega arith; counts = omega arith; limits = refl; loans = refl; feeds = λ before h. rw append-nil h }
-
   pub takes_then : {s t u : S} {xs ys : List ℕ} → Takes m s xs t → Takes m t ys u → Takes m s (xs ++ ys) u
   takes_then {s} {t} {u} {xs} {ys} p q =
       record {
