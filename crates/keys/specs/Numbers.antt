@@ -1,17 +1,14 @@
 -- Numbers as keys, by size.
-use Rattle.std.specs.Prelude.{◌≡◌, ℕ, ◌+◌, ◌<◌, List, length, slice_index}
-use Rattle.std.specs.Ordering.{nat_cmp}
-use Rattle.std.specs.declared.cmp.Ordering.TheVariants.{Equal}
-use Rattle.std.specs.Cmp.{nat_cmp_is}
-use Rattle.std.proofs.Common.{sym, arith}
-use Rattle.std.proofs.lemmas.Bool.Decides.{nat_tests}
-use Rattle.keys.specs.Order.{TieIsSameness}
+use Rattle.std.specs.Prelude.{ℕ, ◌+◌, ◌<◌, ◌≤◌, ◌⊎◌, List, length, slice_index}
+use Rattle.std.proofs.Common.{inl, inr, ⊎_elim, arith}
+use Rattle.std.proofs.lemmas.Bool.{cases_lt}
+use Rattle.keys.specs.Order.{Order}
 
-same_size : (a b : ℕ) → nat_cmp a b ≡ Equal → a ≡ b
-same_size a b e = grind (arith, nat_tests)
+pub either_way : (a b : ℕ) → (a ≤ b) ⊎ (b ≤ a)
+either_way a b = ⊎_elim (λ l. inl (omega arith)) inr (cases_lt a b)
 
-pub size_ties : TieIsSameness nat_cmp (λ n. n)
-size_ties = record { same = same_size; tie = λ a b e. sym (nat_cmp_is a b Equal e) }
+abbrev pub by_size : Order ℕ
+by_size = record { at_most = ◌≤◌; total = either_way; transitive = λ a b c l m. omega arith }
 
 -- Each number is less than the next.
 pub record AscendingNumbers (ns : List ℕ) : Type 0 where

@@ -36,5 +36,5 @@ pub fn place_of<B: Bank, S: Sought<B::Key>>(bank: &B, sought: &S) -> Result<usiz
     ensures is { result ≡ placed B.Key.Key.sameness (map B.Key.Key.meaning (B.Bank.keys bank.now)) (B.Key.Key.meaning (S.Sought.stands sought.now)) }
     ensures laws { TableLaws B.Key.Key.sameness }
 {
-    find(bank, sought).ok_or(bank.len())
+    find(bank, sought).ok_or_else(|| bank.len())
 }

@@ -1,6 +1,6 @@
 // Numbers as keys: axis numbers, region numbers, in order of size.
 ghost use Rattle.std.specs.Prelude.{◌≡◌, ℕ, map, Decides};
-ghost use Rattle.keys.specs.Numbers.{AscendingNumbers, size_ties};
+ghost use Rattle.keys.specs.Numbers.{AscendingNumbers, by_size};
 ghost use Rattle.keys.specs.Sameness.{numbers};
 
 use crate::bank::Bank;
@@ -8,6 +8,7 @@ use crate::key::Key;
 use crate::order::OrderedKey;
 use crate::run::ascends;
 use format::Coordinate;
+use std::cmp::Ordering;
 
 impl Key for u16 {
     ghost Meaning = { ℕ };
@@ -22,7 +23,11 @@ impl Key for u16 {
 }
 
 impl OrderedKey for u16 {
-    ghost ties = { size_ties };
+    ghost order = { by_size };
+
+    fn compare(&self, other: &u16) -> Ordering {
+        self.cmp(other)
+    }
 }
 
 // A record that goes by a number. A further record is added by an `impl` that says which of its fields that is.

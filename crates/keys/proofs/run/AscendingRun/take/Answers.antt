@@ -2,4 +2,4 @@ use Rattle.keys.proofs.Orders.{takes}
 use Rattle.keys.proofs.run.AscendingRun.take.Goals as goal
 
 pub returns : goal.returns
-returns g c = takes g.K.Ord.cmp g.met.K.Ord.total g.K.Key.meaning g.met.K.OrderedKey.ties _ _ c.if-not-admits.ensures
+returns g c = record { takes = takes g.K.OrderedKey.order g.K.Key.meaning _ _ c.admits.ensures.ties c.if-not-admits.ensures.above; ties = c.admits.ensures.ties }
