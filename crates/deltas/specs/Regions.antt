@@ -1,5 +1,6 @@
 -- Regions, as they are handed in and as a job holds them.
-use Rattle.std.specs.Prelude.{Bool, not, List, map, pos, filter, refl}
+use Rattle.std.specs.Prelude.{◌≡◌, Bool, not, List, ◌∷◌, map, pos, Some, None, filter, Option, ◌≢◌, refl}
+use Rattle.std.specs.Borrow.{Bor}
 use Rattle.std.specs.Ordering.{int_eq}
 use Rattle.format.specs.declared.Coordinate.{Coordinate}
 use Rattle.keys.specs.Lent.{lent}
@@ -15,6 +16,11 @@ has_peak c = not (int_eq c.peak (pos 0))
 -- The region of coordinates that are handed in: zero peaks are dropped.
 abbrev pub kept : List Coordinate → List Coordinate
 kept = filter has_peak
+
+-- The region begins with this coordinate, and more follows; or it does not.
+abbrev pub GoesOn : List Coordinate → Coordinate → Option (Bor (List Coordinate)) → Type 0
+GoesOn region c (Some more) = region ≡ c ∷ more.now
+GoesOn region c None = (more : List Coordinate) → region ≢ c ∷ more
 
 -- Coordinates are the same where axis, start, peak and end are.
 abbrev pub coordinate_sameness : Sameness Coordinate

@@ -2,7 +2,7 @@
 ghost use Rattle.std.specs.Prelude.{◌≡◌, ◌+◌, ◌≤◌, List, ◌++◌, map, length, take, Decides};
 ghost use Rattle.format.specs.declared.Coordinate.{Coordinate};
 ghost use Rattle.keys.specs.Places.{place};
-ghost use Rattle.deltas.specs.Regions.{has_peak, kept, region_sameness, held, regions_of};
+ghost use Rattle.deltas.specs.Regions.{has_peak, kept, GoesOn, region_sameness, held, regions_of};
 
 use format::Coordinate;
 use keys::{Bank, Key, Sought, find};
@@ -34,11 +34,41 @@ pub fn put_kept(list: &mut [Coordinate], filled: usize, from: &[Coordinate]) -> 
     end
 }
 
-// Whether a held region is that of these coordinates, zero peaks dropped.
+// Whether two coordinates are the same.
+fn same_coordinate(a: &Coordinate, b: &Coordinate) -> bool
+    ensures { Decides result (a.now ≡ b.now) }
+{
+    a.axis == b.axis && a.start == b.start && a.peak == b.peak && a.end == b.end
+}
+
+// What follows a region's first coordinate, where that is this one.
+fn after_first<'a>(region: &'a [Coordinate], c: &Coordinate) -> Option<&'a [Coordinate]>
+    ensures { GoesOn region.now c.now result }
+{
+    if region.is_empty() {
+        return None;
+    }
+    if !same_coordinate(&region[0], c) {
+        return None;
+    }
+    Some(&region[1..])
+}
+
+// Whether a held region is that of these coordinates, zero peaks dropped. A walk, in which each field is compared by itself.
 fn same_kept(known: &[Coordinate], given: &[Coordinate]) -> bool
     ensures { Decides result (known.now ≡ kept given.now) }
 {
-    known.iter().eq(given.iter().filter(|c| peaks(c)))
+    let mut rest = known;
+    for c in given {
+        if !peaks(c) {
+            continue;
+        }
+        let Some(more) = after_first(rest, c) else {
+            return false;
+        };
+        rest = more;
+    }
+    rest.is_empty()
 }
 
 // A region that the job holds: the coordinates as they stand.

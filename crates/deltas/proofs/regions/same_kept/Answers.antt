@@ -1,12 +1,19 @@
-use Rattle.std.proofs.Common.{rules, tests}
-use Rattle.std.proofs.lemmas.Iterator.{YieldsList-from_slice}
-use Rattle.std.proofs.lemmas.Iterator.Consumers.{YieldsList-from_filter}
-use Rattle.memory.proofs.Equal.{eq_decides}
-use Rattle.deltas.specs.Regions.{has_peak, coordinate_sameness}
+use Rattle.std.proofs.lemmas.List.{at_drop_all}
+use Rattle.deltas.specs.Regions.{kept}
+use Rattle.deltas.proofs.Coordinates.{kept_next, kept_skip, agree_skips, agree_stops, agree_goes, agree_ends}
 use Rattle.deltas.proofs.regions.same_kept.Goals as goal
 
+pub loop-c-preserved-then-not-peaks : goal.loop-c-preserved-then-not-peaks
+loop-c-preserved-then-not-peaks c =
+    agree_skips _ _ _ _ c.loop-c.invariant _ (kept_skip c.args.given.now c.loop-c.c-index _ _ c.loop-c-test.true c.peaks.ensures c.if-not-peaks.true)
+
+pub returns-in_default : goal.returns-in_default
+returns-in_default c =
+    agree_stops _ _ _ _ c.loop-c.invariant _ _ (kept_next c.args.given.now c.loop-c.c-index _ _ c.loop-c-test.true c.peaks.ensures c.if-not-peaks.false) c.in_default.ensures
+
+pub loop-c-preserved : goal.loop-c-preserved
+loop-c-preserved c =
+    agree_goes _ _ _ _ c.loop-c.invariant _ _ (kept_next c.args.given.now c.loop-c.c-index _ _ c.loop-c-test.true c.peaks.ensures c.if-not-peaks.false) _ c.in-Some.ensures
+
 pub returns : goal.returns
-returns c =
-    eq_decides _ c.eq.ensures.ran (YieldsList-from_slice c.args.known.now cc)
-    (YieldsList-from_filter _ has_peak (YieldsList-from_slice c.args.given.now cc) c.filter.ensures.closure (λ x r q k. search (rules, tests)))
-    (λ a b. coordinate_sameness.exact a.now b.now)
+returns c = agree_ends _ _ _ _ c.loop-c.invariant _ c.is_empty.ensures (at_drop_all kept c.args.given.now c.loop-c.c-index c.loop-c-test.false)
