@@ -1,11 +1,11 @@
 // Reading a script, line by line.
 use crate::call::{Call, Deltas, Id, Line, Script, Stroke};
 use crate::mistake::{Place, Unread};
-use crate::word::{Number, Word, words};
+use crate::word::{Number, Word, Words};
 use deltas::Part;
 use format::{Coordinate, Transform};
-use hex::FromHexError;
-use memory::{NO_VARIATION_INDEX, Pair};
+use hex::FromHex;
+use memory::{NO_VARIATION_INDEX, Pair, Span};
 use std::alloc::Global;
 
 const FIRST: &str = "'job NUMBER' as the first call";
@@ -38,13 +38,21 @@ fn pair(word: Word<'_>) -> Result<Pair, Unread> {
     })
 }
 
-// A count, as a part has it.
+// A count, as a part or a span has it.
 fn count(n: usize) -> Result<u32, Unread> {
     u32::try_from(n).map_err(|_| Unread::Memory)
 }
 
+// What was appended to a list since it had so many records.
+fn since<T>(list: &Vec<T>, before: usize) -> Result<Span, Unread> {
+    Ok(Span {
+        place: count(before)?,
+        count: count(list.len().saturating_sub(before))?,
+    })
+}
+
 // Sets a field that was not set before.
-fn put<T: Drop>(field: &mut Option<T>, word: Word<'_>, value: T) -> Result<(), Unread> {
+fn put<T: Copy>(field: &mut Option<T>, word: Word<'_>, value: T) -> Result<(), Unread> {
     if field.is_some() {
         return Err(word.wrong(ONCE));
     }
@@ -69,17 +77,31 @@ fn transform_number<'t>(transform: &'t mut Transform, name: &str) -> Option<&'t 
 }
 
 // Nothing more may follow.
-fn nothing(rest: &[Word<'_>]) -> Result<(), Unread> {
-    match rest {
-        [] => Ok(()),
-        [word, ..] => Err(word.wrong("the line's end")),
+fn nothing(mut rest: Words<'_>) -> Result<(), Unread> {
+    match rest.next() {
+        None => Ok(()),
+        Some(word) => Err(word.wrong("the line's end")),
     }
 }
 
 // A call that takes no words.
-fn alone(call: Call, rest: &[Word<'_>]) -> Result<Call, Unread> {
+fn alone(call: Call, rest: Words<'_>) -> Result<Call, Unread> {
     nothing(rest)?;
     Ok(call)
+}
+
+// Appends the bytes of a word in hex. A word that is none is refused before anything is appended.
+fn push_hex(all: &mut Vec<u8>, word: Word<'_>) -> Result<(), Unread> {
+    let wrong = word.wrong("bytes in hex, two digits each");
+    let text = word.text.as_bytes();
+    if text.len() % 2 != 0 || !text.iter().all(|c| c.is_ascii_hexdigit()) {
+        return Err(wrong);
+    }
+    for digits in text.chunks_exact(2) {
+        let [byte] = <[u8; 1]>::from_hex(digits).map_err(|_| wrong)?;
+        all.push(byte)?;
+    }
+    Ok(())
 }
 
 // The bytes of a line, in hex, in one word or more, where they were not given before.
@@ -87,18 +109,14 @@ fn bytes(
     heap: Global,
     field: &mut Option<Vec<u8>>,
     twice: Unread,
-    words: &[Word<'_>],
+    words: Words<'_>,
 ) -> Result<(), Unread> {
     if field.is_some() {
         return Err(twice);
     }
     let mut all = Vec::new(heap);
     for word in words {
-        let bytes = hex::decode(heap, word.text).map_err(|e| match e {
-            FromHexError::OutOfMemory => Unread::Memory,
-            _ => word.wrong("bytes in hex, two digits each"),
-        })?;
-        all.extend_from_slice(bytes.as_slice())?;
+        push_hex(&mut all, word)?;
     }
     *field = Some(all);
     Ok(())
@@ -110,6 +128,10 @@ struct Reader<'a> {
     heap: Global,
     job: Option<u32>,
     lines: Vec<Line<'a>>,
+    parts: Vec<Part>,
+    coordinates: Vec<Coordinate>,
+    values: Vec<i32>,
+    pairs: Vec<Pair>,
     coverage: Option<Vec<u8>>,
     conditions: Option<Vec<u8>>,
 }
@@ -120,6 +142,10 @@ impl<'a> Reader<'a> {
             heap,
             job: None,
             lines: Vec::new(heap),
+            parts: Vec::new(heap),
+            coordinates: Vec::new(heap),
+            values: Vec::new(heap),
+            pairs: Vec::new(heap),
             coverage: None,
             conditions: None,
         }
@@ -131,38 +157,41 @@ impl<'a> Reader<'a> {
     }
 
     // A part of a delta set, AXES=VALUES.
-    fn part(&self, deltas: &mut Deltas, word: Word<'a>) -> Result<(), Unread> {
+    fn part(&mut self, word: Word<'a>) -> Result<Part, Unread> {
         let (axes, values) = word.cut('=').ok_or(word.wrong("a part, AXES=VALUES"))?;
         let axes = axes.pieces(self.heap)?;
         for piece in axes.iter() {
-            deltas.coordinates.push(coordinate(*piece)?)?;
+            self.coordinates.push(coordinate(*piece)?)?;
         }
         let values = values.pieces(self.heap)?;
         for piece in values.iter() {
-            deltas.values.push(piece.number()?)?;
+            self.values.push(piece.number()?)?;
         }
-        deltas.parts.push(Part {
+        Ok(Part {
             axes: count(axes.len())?,
             values: count(values.len())?,
-        })?;
-        Ok(())
+        })
     }
 
-    fn deltas(&self, words: &[Word<'a>]) -> Result<Deltas, Unread> {
-        let mut deltas = Deltas {
-            parts: Vec::new(self.heap),
-            coordinates: Vec::new(self.heap),
-            values: Vec::new(self.heap),
-        };
+    fn deltas(&mut self, words: Words<'a>) -> Result<Deltas, Unread> {
+        let parts = self.parts.len();
+        let coordinates = self.coordinates.len();
+        let values = self.values.len();
         for word in words {
-            self.part(&mut deltas, *word)?;
+            let part = self.part(word)?;
+            self.parts.push(part)?;
         }
-        Ok(deltas)
+        Ok(Deltas {
+            parts: since(&self.parts, parts)?,
+            coordinates: since(&self.coordinates, coordinates)?,
+            values: since(&self.values, values)?,
+        })
     }
 
     // The name that a delta set's line begins with, if any, and what follows.
-    fn name<'w>(&self, words: &'w [Word<'a>]) -> Result<(Option<&'a str>, &'w [Word<'a>]), Unread> {
-        let [word, rest @ ..] = words else {
+    fn name(&self, words: Words<'a>) -> Result<(Option<&'a str>, Words<'a>), Unread> {
+        let mut rest = words;
+        let Some(word) = rest.next() else {
             return Ok((None, words));
         };
         let Some(name) = word.text.strip_suffix(':') else {
@@ -195,15 +224,16 @@ impl<'a> Reader<'a> {
     }
 
     // The axis values of a component.
-    fn axes(&self, word: Word<'a>) -> Result<Vec<Pair>, Unread> {
+    fn axes(&mut self, word: Word<'a>) -> Result<Span, Unread> {
+        let before = self.pairs.len();
         let pieces = word.pieces(self.heap)?;
-        pieces
-            .iter()
-            .map(|piece| pair(*piece))
-            .try_collect(self.heap)
+        for piece in pieces.iter() {
+            self.pairs.push(pair(*piece)?)?;
+        }
+        since(&self.pairs, before)
     }
 
-    fn component(&self, words: &[Word<'a>], end: Place) -> Result<Stroke, Unread> {
+    fn component(&mut self, words: Words<'a>, end: Place) -> Result<Stroke, Unread> {
         let mut reset = None;
         let mut gid = None;
         let mut condition = None;
@@ -213,7 +243,7 @@ impl<'a> Reader<'a> {
         let mut transform = Transform::default();
         for word in words {
             if word.text == "reset" {
-                put(&mut reset, *word, ())?;
+                put(&mut reset, word, ())?;
                 continue;
             }
             let (field, value) = word.cut('=').ok_or(word.wrong("'reset' or FIELD=VALUE"))?;
@@ -242,9 +272,9 @@ impl<'a> Reader<'a> {
 
     // Reads one line.
     fn line(&mut self, start: Place, text: &'a str) -> Result<(), Unread> {
-        let words = words(self.heap, start, text)?;
+        let mut rest = Words::new(start, text);
         let end = start.after(text.len());
-        let [command, rest @ ..] = words.as_slice() else {
+        let Some(command) = rest.next() else {
             return Ok(());
         };
         if self.job.is_none() && command.text != "job" {
@@ -256,7 +286,7 @@ impl<'a> Reader<'a> {
                 if self.job.is_some() {
                     return Err(command.wrong("one 'job NUMBER', as the first call"));
                 }
-                let (word, rest) = rest.split_first().ok_or(end.wrong(u32::EXPECTED))?;
+                let word = rest.next().ok_or(end.wrong(u32::EXPECTED))?;
                 self.job = Some(word.number()?);
                 return nothing(rest);
             }
@@ -295,15 +325,21 @@ impl<'a> Reader<'a> {
 // Reads a whole script.
 pub fn read<'a>(heap: Global, text: &'a str) -> Result<Script<'a>, Unread> {
     let mut reader = Reader::new(heap);
-    for (i, whole) in text.lines().enumerate() {
+    // Counted here, and not by `enumerate`, as the place behind the last line is asked for too.
+    let mut lines: usize = 0;
+    for whole in text.lines() {
         let text = whole.split_once('#').map_or(whole, |(before, _)| before);
-        reader.line(Place::below(i), text)?;
+        reader.line(Place::below(lines), text)?;
+        lines = lines.saturating_add(1);
     }
-    let end = Place::below(text.lines().count());
-    let job = reader.job.ok_or(end.wrong(FIRST))?;
+    let job = reader.job.ok_or(Place::below(lines).wrong(FIRST))?;
     Ok(Script {
         job,
         lines: reader.lines,
+        parts: reader.parts,
+        coordinates: reader.coordinates,
+        values: reader.values,
+        pairs: reader.pairs,
         coverage: reader.coverage,
         conditions: reader.conditions,
     })

@@ -1,4 +1,7 @@
 // The words of a line, each with its place.
+ghost use Rattle.std.specs.Prelude.{◌≡◌, ◌+◌, ◌-◌, ◌^◌, length, min};
+ghost use Rattle.std.specs.Iterator.{at_most};
+
 use crate::mistake::{Mistake, Place, Unread};
 use std::alloc::{AllocError, Global};
 use std::num::ParseIntError;
@@ -6,7 +9,10 @@ use std::str::FromStr;
 
 impl Place {
     // Where the line begins that so many lines stand above.
-    pub fn below(lines: usize) -> Place {
+    pub fn below(lines: usize) -> Place
+        ensures line { result.line ≡ min (lines + 1) (2 ^ 64 - 1) }
+        ensures column { result.column ≡ 1 }
+    {
         Place {
             line: lines.saturating_add(1),
             column: 1,
@@ -14,14 +20,20 @@ impl Place {
     }
 
     // So many bytes further on in the line.
-    pub fn after(self, bytes: usize) -> Place {
+    pub fn after(self, bytes: usize) -> Place
+        ensures line { result.line ≡ self.line }
+        ensures column { result.column ≡ min (self.column + bytes) (2 ^ 64 - 1) }
+    {
         Place {
             line: self.line,
             column: self.column.saturating_add(bytes),
         }
     }
 
-    pub fn wrong(self, expected: &'static str) -> Unread {
+    // That something else was expected here.
+    pub fn wrong(self, expected: &'static str) -> Unread
+        ensures { result ≡ Unread.Mistake (record { place = self; expected = expected.entry }) }
+    {
         Unread::Mistake(Mistake {
             place: self,
             expected,
@@ -34,6 +46,13 @@ impl Place {
 pub struct Word<'a> {
     pub text: &'a str,
     pub place: Place,
+}
+
+// What is left of a line, word by word, and where it begins.
+#[derive(Clone, Copy)]
+pub struct Words<'a> {
+    rest: &'a str,
+    place: Place,
 }
 
 // A number as a script has it.
@@ -98,16 +117,25 @@ impl<'a> Word<'a> {
     }
 }
 
-// The words of a text that begins at a place.
-pub fn words<'a>(heap: Global, start: Place, text: &'a str) -> Result<Vec<Word<'a>>, AllocError> {
-    let mut all = Vec::new(heap);
-    let mut place = start;
-    for piece in text.split_inclusive(char::is_whitespace) {
-        let text = piece.trim_end();
-        if !text.is_empty() {
-            all.push(Word { text, place })?;
-        }
-        place = place.after(piece.len());
+impl<'a> Words<'a> {
+    // The words of a text that begins at a place.
+    pub fn new(place: Place, text: &'a str) -> Words<'a> {
+        Words { rest: text, place }
     }
-    Ok(all)
+}
+
+// Each step passes over the white space, takes the word behind it, and allocates nothing.
+impl<'a> Iterator for Words<'a> {
+    type Item = Word<'a>;
+
+    ghost remaining = { λ s. at_most (length s.rest.now) };
+
+    fn next(&mut self) -> Option<Word<'a>> {
+        let rest = self.rest.trim_start();
+        let text = rest.split_whitespace().next()?;
+        let place = self.place.after(self.rest.len() - rest.len());
+        self.rest = rest.get(text.len()..)?;
+        self.place = place.after(text.len());
+        Some(Word { text, place })
+    }
 }
