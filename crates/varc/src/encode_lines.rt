@@ -81,10 +81,14 @@ fn numbers<'a>(heap: Global, words: SplitWhitespace<'a>) -> Result<Vec<i32>, Mis
         .try_collect(heap)
 }
 
-// The bytes that a word has in hex, two digits each; none for '-'.
+// The bytes that a word has in hex, two digits each; none for '-'. A word that is no such bytes is refused before anything is
+// allocated: `decode` makes room for all of them first.
 fn hex_bytes<'a>(heap: Global, word: &'a str) -> Result<Vec<u8>, Mistake<'a>> {
     if word == "-" {
         return Ok(Vec::new(heap));
+    }
+    if !word.bytes().all(|c| c.is_ascii_hexdigit()) {
+        return Err(Mistake::Hex(word));
     }
     hex::decode(heap, word).map_err(|e| match e {
         FromHexError::OutOfMemory => Mistake::Memory,
@@ -140,13 +144,14 @@ pub fn encode(rt: &HostRuntime) -> Result<(), Failure> {
     let input = BufReader::new(heap, rt.stdin()).map_err(Failure::Input)?;
     for line in input.lines(heap) {
         let line = line.map_err(Failure::Input)?;
-        let mut words = line.as_str().split_whitespace();
+        let text = line.as_str().trim();
+        if text.starts_with('#') {
+            continue;
+        }
+        let mut words = text.split_whitespace();
         let Some(command) = words.next() else {
             continue;
         };
-        if command.starts_with('#') {
-            continue;
-        }
         match answer(heap, command, words) {
             Ok(bytes) => {
                 let hex = Hex(bytes.as_slice());
