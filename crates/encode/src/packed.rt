@@ -27,13 +27,18 @@ fn value_len(width: Width) -> usize
     width as usize
 }
 
-// Writes a value in the bytes of its width: the last of its four.
+// Writes a value in the bytes of its width: the last of its four. Each length stands as a constant, so that no loop is left of it.
 fn write_value<S: Sink>(width: Width, v: i32, sink: &mut S) -> Result<(), Full>
     requires { Holds width v }
     ensures { WhileRoom S.meaning sink.old (value_bytes width v) result sink.new }
 {
     let all = v.to_be_bytes();
-    put_all(&all[4 - value_len(width)..], sink)
+    match value_len(width) {
+        1 => put_all(&all[3..], sink),
+        2 => put_all(&all[2..], sink),
+        4 => put_all(&all, sink),
+        _ => Ok(()),
+    }
 }
 
 impl Run {
