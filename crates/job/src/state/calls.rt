@@ -162,6 +162,7 @@ impl Job {
         requires room { Room 1 self.old.counts.composites (length mem.old.composites.now) }
         ensures answer { result ≡ token_of self.old }
         ensures leaves { state self.new (lists mem.new) ≡ begun (state self.old (lists mem.old)) }
+        ensures below { Below (state self.new (lists mem.new)) }
         ensures keeps { Keeps self.old (lists mem.old) self.new (lists mem.new) }
     {
         let at = self.counts.composites;
@@ -212,6 +213,7 @@ impl Job {
         requires fits { JobFits self.old (lists mem.old) }
         requires mark { self.old.mark ≡ Some begun }
         ensures leaves { state self.new (lists mem.new) ≡ closed (state self.old (lists mem.old)) }
+        ensures below { Below (state self.new (lists mem.new)) }
         ensures keeps { Keeps self.old (lists mem.old) self.new (lists mem.new) }
     {
         let count = self.counts.components - begun.components;

@@ -6,6 +6,11 @@ use Rattle.job.proofs.Moves.{begin_leaves}
 use Rattle.job.proofs.Still.{still_fits}
 use Rattle.job.proofs.state.Job.put_begun.Goals as goal
 
+pub returns-clause-below : goal.returns-clause-below
+returns-clause-below c =
+    let fits = c.requires.fits in
+    subst Below (sym (begin_leaves c.args.self.now _ fits c.requires.room)) (begun_below c.args.self.now _ fits)
+
 pub returns-clause-keeps : goal.returns-clause-keeps
 returns-clause-keeps c =
     let j = c.args.self.now in
