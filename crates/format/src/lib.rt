@@ -2,7 +2,8 @@
 // here, and the laws are the contracts of small functions.
 #![tactic(auto)]
 
-ghost use Rattle.std.specs.Prelude.{◌≡◌};
+ghost use Rattle.std.specs.Prelude.{◌≡◌, []};
+ghost use Rattle.format.specs.Component.{transform_of};
 ghost use Rattle.format.specs.Examples.{Examples};
 ghost use Rattle.format.specs.Faults.{fault_number};
 ghost use Rattle.format.specs.Laws.{NumbersReadBack, PackedReadsBack, IndexReadsBack, ComponentsReadBack, TableReadsBack, TablesTellApart};
@@ -84,6 +85,8 @@ pub struct Transform<T = Option<i16>> {
 
 // Nothing is present. By hand: a derived default would be one of the settled numbers too, and theirs are not all zero.
 impl Default for Transform {
+    ghost is_default = { λ t. t ≡ transform_of [] };
+
     fn default() -> Transform {
         Transform {
             translate_x: None,

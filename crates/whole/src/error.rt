@@ -42,3 +42,10 @@ impl From<AllocError> for ToVecError {
         ToVecError::OutOfMemory
     }
 }
+
+// So that `?` answers as it did where a caller knows of no other error.
+impl From<ToVecError> for AllocError {
+    fn from(_e: ToVecError) -> AllocError {
+        AllocError
+    }
+}
