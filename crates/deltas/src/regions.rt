@@ -54,7 +54,24 @@ fn after_first<'a>(region: &'a [Coordinate], c: &Coordinate) -> Option<&'a [Coor
     Some(&region[1..])
 }
 
-// Whether a held region is that of these coordinates, zero peaks dropped. A walk, in which each field is compared by itself.
+// Whether two held regions are the same. A walk, in which each field is compared by itself.
+fn same_held(known: &[Coordinate], other: &[Coordinate]) -> bool
+    ensures { Decides result (known.now ≡ other.now) }
+{
+    if known.len() != other.len() {
+        return false;
+    }
+    let mut rest = known;
+    for c in other {
+        let Some(more) = after_first(rest, c) else {
+            return false;
+        };
+        rest = more;
+    }
+    rest.is_empty()
+}
+
+// Whether a held region is that of these coordinates, zero peaks dropped. A walk, as in `same_held`.
 fn same_kept(known: &[Coordinate], given: &[Coordinate]) -> bool
     ensures { Decides result (known.now ≡ kept given.now) }
 {
@@ -85,7 +102,7 @@ impl<'a> Key for HeldRegion<'a> {
     ghost sameness = { region_sameness };
 
     fn same(&self, other: &HeldRegion<'a>) -> bool {
-        self.coordinates == other.coordinates
+        same_held(self.coordinates, other.coordinates)
     }
 }
 
