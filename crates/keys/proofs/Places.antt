@@ -1,11 +1,11 @@
 -- Where keys first came, and tables of different keys.
-use Rattle.std.proofs.Common.{◌≡◌, ℕ, zero, suc, ◌<◌, ◌≤◌, Bool, true, false, cond, List, [], ◌∷◌, map, length, get_or, Some, None, Decides, MatchOption, Option, sym, refl, ap, ◌∙◌, ⊎_elim, arith}
+use Rattle.std.proofs.Common.{◌≡◌, ℕ, zero, suc, ◌+◌, ◌<◌, ◌≤◌, Bool, true, false, cond, List, [], ◌∷◌, map, length, get_or, Some, None, Option, sym, refl, ap, ◌∙◌, ⊎_elim, arith, below_more}
 use Rattle.std.specs.Option.{option_map}
 use Rattle.std.proofs.lemmas.List.{get_or-map, length-map}
 use Rattle.std.proofs.lemmas.Bool.{cases_lt}
 use Rattle.std.proofs.lemmas.Bool.Decides.{not_from_Decides}
 use Rattle.keys.specs.Sameness.{Sameness}
-use Rattle.keys.specs.Places.{First, place}
+use Rattle.keys.specs.Places.{FirstAt, Nowhere, First, place}
 
 -- a key has one first place at most
 pub first_unique : {M : Type 0} (ks : List M) (key : M) (p q : Option ℕ) → First ks key p → First ks key q → p ≡ q
@@ -39,26 +39,20 @@ module _ {M : Type 0} (same : Sameness M) where
   pub first_is_place : (ks : List M) (key : M) (p : Option ℕ) → First ks key p → p ≡ place same ks key
   first_is_place ks key p h = first_unique ks key p (place same ks key) h (place_first ks key)
 
--- what a test at a place says of it
-module _ {K M : Type 0} (meaning : K → M) (keys : List K) (key : M) (i : ℕ) (k : K) (is : meaning k ≡ meaning (get_or keys i k)) where
-  read : i < length keys → get_or (map meaning keys) i key ≡ meaning k
-  read l = get_or-map meaning keys i k key l ∙ sym is
+-- one place of a search
+module _ {K M : Type 0} (meaning : K → M) (keys : List K) (key : M) (i : ℕ) where
+  abbrev pub NotBelow : Type 0
+  NotBelow = (j : ℕ) → j < i → get_or (map meaning keys) j key ≡ key → ⊥
 
-  pub stands_there : (b : Bool) → Decides b (meaning k ≡ key) → b ≡ true → i < length keys → get_or (map meaning keys) i key ≡ key
-  stands_there b h e l = read l ∙ h.0 e
+  module _ (k : K) (l : i < length keys) (is : meaning k ≡ meaning (get_or keys i k)) where
+    read : get_or (map meaning keys) i key ≡ meaning k
+    read = get_or-map meaning keys i k key l ∙ sym is
 
-  pub stands_not : (b : Bool) → Decides b (meaning k ≡ key) → b ≡ false → i < length keys → get_or (map meaning keys) i key ≡ key → ⊥
-  stands_not b h e l f = not_from_Decides b h e (sym (read l) ∙ f)
+    pub search_found : NotBelow → meaning k ≡ key → FirstAt (map meaning keys) key i
+    search_found inv e = record { within = omega (arith, length-map keys meaning); here = read ∙ e; not_before = inv }
 
--- the answer of a search through all places
-module _ {K M : Type 0} (meaning : K → M) (keys : List K) (key : M) where
-  abbrev pub Here : ℕ → Type 0
-  Here i = i < length keys → get_or (map meaning keys) i key ≡ key
+    pub search_goes : NotBelow → (meaning k ≡ key → ⊥) → (j : ℕ) → j < i + 1 → get_or (map meaning keys) j key ≡ key → ⊥
+    search_goes inv ne = below_more _ i inv (λ e. ne (sym read ∙ e))
 
-  abbrev pub NotHere : ℕ → Type 0
-  NotHere i = i < length keys → get_or (map meaning keys) i key ≡ key → ⊥
-
-  pub first_of_search : (n : ℕ) (r : Option ℕ) → n ≡ length keys → MatchOption r ((k : ℕ) → 0 ≤ k → k < n → NotHere k) (λ i. (0 ≤ i) × (i < n) × Here i × ((k : ℕ) → 0 ≤ k → k < i → NotHere k)) → First (map meaning keys) key r
-  first_of_search n None e h = record { nowhere = λ j l. h j (omega arith) (omega (arith, length-map keys meaning)) (omega (arith, length-map keys meaning)) }
-  first_of_search n (Some i) e h =
-      record { within = omega (arith, h.1, length-map keys meaning); here = h.2 (omega (arith, h.1)); not_before = λ j l. h.3 j (omega arith) l (omega (arith, h.1)) }
+  pub search_ends : length keys ≤ i → NotBelow → Nowhere (map meaning keys) key
+  search_ends l inv = record { nowhere = λ j b. inv j (omega (arith, length-map keys meaning)) }
